@@ -1,0 +1,51 @@
+-- A register fed with bits and bytes: its bound, the next byte, and parts one after the other. Assumes nothing.
+use mathlib.Core.Path.{_≡_, refl, sym, ap, _∙_}
+use mathlib.Core.List.{List, [], _∷_, _++_, append-assoc}
+use Prim.Native.Nat.{ℕ, _-_, _%_, _^_, _<_}
+use native.Mathlib.Nat.{mod-eq-of-lt}
+use native.Mathlib.Omega.{arith}
+use Rattle.std.proofs.shelf.Bits.{mod-below, pow-pos}
+use Rattle.frame.specs.Checks.{ones, fedBits, fed, InParts}
+use Rattle.frame.specs.Division.{divided, bits, message, Bits}
+use Rattle.frame.proofs.Steps.{divided-append, divided-nil, divided-below, message-are-bits}
+
+pub fedBits-below : (d l r : ℕ) (bs : List ℕ) → l < 2 ^ d → Bits bs → fedBits d l r bs < 2 ^ d
+unfolding fedBits
+fedBits-below d l r bs hl hb = divided-below d l (r % 2 ^ d) bs hl (mod-below r (2 ^ d) (pow-pos d)) hb
+
+pub fed-below : (d l r : ℕ) (bytes : List ℕ) → l < 2 ^ d → fed d l r bytes < 2 ^ d
+fed-below d l r bytes hl = fedBits-below d l r (message bytes) hl (message-are-bits bytes)
+
+-- a register within its d bits counts whole
+pub fedBits-within : (d l r : ℕ) (bs : List ℕ) → r < 2 ^ d → fedBits d l r bs ≡ divided d l r bs
+unfolding fedBits
+fedBits-within d l r bs h = ap (λ x. divided d l x bs) (mod-eq-of-lt h)
+
+-- only the d lowest bits of a register count
+pub fed-cut : (d l r : ℕ) (bytes : List ℕ) → fed d l (r % 2 ^ d) bytes ≡ fed d l r bytes
+unfolding fedBits
+fed-cut d l r bytes = fedBits-within d l (r % 2 ^ d) (message bytes) (mod-below r (2 ^ d) (pow-pos d))
+
+pub fedBits-append : (d l r : ℕ) (xs ys : List ℕ) → l < 2 ^ d → Bits xs → fedBits d l r (xs ++ ys) ≡ fedBits d l (fedBits d l r xs) ys
+unfolding fedBits
+fedBits-append d l r xs ys hl hx =
+    divided-append d l (r % 2 ^ d) xs ys ∙ sym (fedBits-within d l (divided d l (r % 2 ^ d) xs) ys (fedBits-below d l r xs hl hx))
+
+message-append : (xs ys : List ℕ) → message (xs ++ ys) ≡ message xs ++ message ys
+message-append [] ys = refl
+message-append (x ∷ xs) ys = ap (λ zs. bits 8 x ++ zs) (message-append xs ys) ∙ sym (append-assoc (bits 8 x) (message xs) (message ys))
+
+-- bytes that come in two parts
+pub fed-append : (d l r : ℕ) (xs ys : List ℕ) → l < 2 ^ d → fed d l r (xs ++ ys) ≡ fed d l (fed d l r xs) ys
+fed-append d l r xs ys hl = ap (fedBits d l r) (message-append xs ys) ∙ fedBits-append d l r (message xs) (message ys) hl (message-are-bits xs)
+
+pub in-parts : (d l r : ℕ) (bytes : List ℕ) → l < 2 ^ d → InParts d l r bytes (fed d l r bytes)
+in-parts d l r bytes hl first rest e = sym (fed-append d l r first rest hl) ∙ ap (fed d l r) e
+
+-- no byte
+pub fed-nil : (d l r : ℕ) → fed d l r [] ≡ r % 2 ^ d
+unfolding fedBits
+fed-nil d l r = divided-nil d l (r % 2 ^ d)
+
+pub ones-below : (d : ℕ) → ones d < 2 ^ d
+ones-below d = omega (arith, pow-pos d)

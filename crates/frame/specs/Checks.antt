@@ -1,0 +1,49 @@
+-- Checks (CRC): the register of a check is the remainder of a division by x^d + l, d the degree and l the lower terms.
+-- Assumes nothing.
+use mathlib.Core.List.{List, _++_}
+use mathlib.Core.Path.{_≡_}
+use Prim.Native.Nat.{ℕ, _-_, _*_, _%_, _^_}
+use lib.Bits.{bitXor}
+use lib.ListN.{length}
+use Rattle.frame.specs.Division.{divided, bits, message, polynomial}
+
+-- the largest degree of a check; nothing below names another bound on degrees
+abbrev pub mostDegree : ℕ
+mostDegree = 8
+
+-- a register of d ones, as a check starts with
+abbrev pub ones : ℕ → ℕ
+ones d = 2 ^ d - 1
+
+-- the register r with more bits, or more bytes; of r only the d lowest bits count
+unfoldable pub fedBits : ℕ → ℕ → ℕ → List ℕ → ℕ
+fedBits d l r bs = divided d l (r % 2 ^ d) bs
+
+abbrev pub fed : ℕ → ℕ → ℕ → List ℕ → ℕ
+fed d l r bytes = fedBits d l r (message bytes)
+
+-- r is the register before with some bytes, in whatever two parts these come
+abbrev pub InParts : ℕ → ℕ → ℕ → List ℕ → ℕ → Type 0
+InParts d l before bytes r = (first rest : List ℕ) → first ++ rest ≡ bytes → fed d l (fed d l before first) rest ≡ r
+
+-- the remainder over some bytes
+abbrev pub remainderOf : ℕ → ℕ → List ℕ → ℕ
+remainderOf d l bytes = fed d l (ones d) bytes
+
+-- what is divided by then: the message times x^d, with ones added in its d highest places, which complements its first d bits
+abbrev pub dividend : ℕ → List ℕ → ℕ
+dividend d bs = bitXor (polynomial 0 bs * 2 ^ d) (ones d * 2 ^ length bs)
+
+-- CRC-6 divides by x^6 + x + 1 and is complemented at the end; over no byte it is 0
+unfoldable pub crc6Fed : ℕ → List ℕ → ℕ
+crc6Fed r bytes = fed 6 3 r bytes
+
+unfoldable pub crc6End : ℕ → ℕ
+crc6End r = bitXor (r % 2 ^ 6) (ones 6)
+
+abbrev pub crc6Of : List ℕ → ℕ
+crc6Of bytes = crc6End (crc6Fed (ones 6) bytes)
+
+-- CRC-4 divides by x^4 + x + 1, goes over the twelve other bits of a header, and is not complemented
+unfoldable pub crc4Of : ℕ → ℕ
+crc4Of twelve = fedBits 4 3 (ones 4) (bits 12 twelve)

@@ -1,0 +1,23 @@
+// CRC-4, over the twelve other bits of a header.
+ghost use mathlib.Core.Path.{_≡_};
+ghost use Prim.Native.Nat.{_<_};
+ghost use Rattle.frame.specs.Checks.{crc4Of};
+use crate::check::Check;
+use crate::check::Crc4;
+use crate::check::Crc4Check;
+use crate::check::feed_bits;
+use crate::check::start;
+
+/// The CRC-4 over the twelve lowest bits of a number.
+pub fn of_twelve(bits: u16) -> u16
+    ensures value { λ r. ⌜ r ≡ crc4Of bits ⌝ }
+    ensures bound { λ r. ⌜ r < 16 ⌝ }
+{
+    feed_bits(
+        Crc4::degree_of(),
+        Crc4::lower_of(),
+        start::<Crc4>(),
+        u64::from(bits),
+        12,
+    ) as u16
+}

@@ -1,0 +1,61 @@
+// Events, and the headers that carry one through a superframe.
+ghost use mathlib.Core.Path.{_≡_};
+ghost use Prim.Native.Nat.{_<_};
+ghost use Rattle.frame.specs.Superframe.{codeOf, dataOf, c6Of, headersOf};
+use crate::header::write;
+
+/// The codes of the events that the link knows.
+#[derive(Clone, Copy, PartialEq, Eq, Debug)]
+pub enum EventCode {
+    Null = 0,
+    SyncChange = 1,
+    ConfigSw = 2,
+    Sync = 255,
+}
+
+impl EventCode {
+    /// The code as it stands in a header.
+    pub fn number(self) -> u8
+        ensures { λ r. ⌜ r ≡ codeOf self ⌝ }
+    {
+        self as u8
+    }
+}
+
+/// An event: its code and Value[0] to Value[4].
+#[derive(Clone, Copy, PartialEq, Eq, Debug)]
+pub struct Event {
+    pub code: u8,
+    pub values: [u8; 5],
+}
+
+impl Event {
+    /// Data of a frame: the code in frame 1, the values in frames 2 to 6.
+    pub fn data(self, frame: u8) -> u8
+        ensures { λ r. ⌜ r ≡ dataOf self frame ⌝ }
+    {
+        match frame {
+            0 | 1 => self.code,
+            _ => self.values[usize::from(frame.min(6)) - 2],
+        }
+    }
+}
+
+/// The C6 bit of a frame: the six bits of a CRC-6 over the six frames, the highest first.
+pub fn c6_bit(crc: u8, frame: u8) -> u8
+    ensures { λ r. ⌜ r ≡ c6Of crc frame ⌝ }
+{
+    (crc >> (6 - frame.clamp(1, 6))) & 1
+}
+
+/// The headers of a superframe's six frames.
+pub fn headers(crc: u8, event: Event) -> [u16; 6]
+    ensures { λ r. ⌜ r ≡ headersOf crc event ⌝ }
+{
+    let mut headers = [0; 6];
+    for (place, header) in headers.iter_mut().enumerate() {
+        let frame = place as u8 + 1;
+        *header = write(frame, c6_bit(crc, frame), event.data(frame));
+    }
+    headers
+}
