@@ -4,8 +4,10 @@ use mathlib.Core.List.{List, [], _∷_, _++_, append-assoc}
 use Prim.Native.Nat.{ℕ, _-_, _%_, _^_, _<_}
 use native.Mathlib.Nat.{mod-eq-of-lt}
 use native.Mathlib.Omega.{arith}
+use lib.Bits.{bitXor}
+use lib.Dec.{lit<}
 use Rattle.std.proofs.shelf.Bits.{mod-below, pow-pos}
-use Rattle.frame.specs.Checks.{ones, fedBits, fed, InParts}
+use Rattle.frame.specs.Checks.{ones, fedBits, fed, InParts, crc6Fed, crc6End}
 use Rattle.frame.specs.Division.{divided, bits, message, Bits}
 use Rattle.frame.proofs.Steps.{divided-append, divided-nil, divided-below, message-are-bits}
 
@@ -49,3 +51,14 @@ fed-nil d l r = divided-nil d l (r % 2 ^ d)
 
 pub ones-below : (d : ℕ) → ones d < 2 ^ d
 ones-below d = omega (arith, pow-pos d)
+
+-- the same of CRC-6
+pub crc6Fed-append : (r : ℕ) (xs ys : List ℕ) → crc6Fed r (xs ++ ys) ≡ crc6Fed (crc6Fed r xs) ys
+unfolding crc6Fed
+crc6Fed-append r xs ys = fed-append 6 3 r xs ys (lit< tt)
+
+pub crc6End-nil : (r : ℕ) → crc6End (crc6Fed r []) ≡ crc6End r
+unfolding crc6Fed crc6End
+crc6End-nil r =
+    let cut : fed 6 3 r [] % 64 ≡ r % 64 = ap (λ x. x % 64) (fed-nil 6 3 r) ∙ mod-eq-of-lt (mod-below r 64 (lit< tt)) in
+    ap (λ x. bitXor x 63) cut

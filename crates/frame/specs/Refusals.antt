@@ -2,6 +2,7 @@
 -- record. Assumes nothing.
 use mathlib.Core.List.{List, []}
 use Prim.Native.Nat.{ℕ}
+use lib.Chars.{codes}
 use Rattle.std.specs.declared.result.Result.{Result}
 use Rattle.std.specs.declared.result.Result.the-variants.{Ok, Err}
 use Rattle.frame.specs.declared.refusal.HeaderRefusal.{HeaderRefusal}
@@ -28,3 +29,8 @@ sfRefused = record { number = 21; tells = [] }
 abbrev pub ofHeader : HeaderRefusal → Refused
 ofHeader Crc4Wrong = crc4Refused
 ofHeader SfWrong = sfRefused
+
+-- what a person is told
+abbrev pub wordsFor : HeaderRefusal → List ℕ
+wordsFor Crc4Wrong = codes "CRC-4 wrong"
+wordsFor SfWrong = codes "SF wrong"

@@ -23,7 +23,7 @@ impl EventCode {
 }
 
 /// An event: its code and Value[0] to Value[4].
-#[derive(Clone, Copy, PartialEq, Eq, Debug)]
+#[derive(Clone, Copy, Debug)]
 pub struct Event {
     pub code: u8,
     pub values: [u8; 5],

@@ -1,6 +1,8 @@
 // Why a header is refused.
 ghost use mathlib.Core.Path.{_≡_};
-ghost use Rattle.frame.specs.Refusals.{ofHeader};
+ghost use Rattle.std.specs.declared.option.Option.the-variants.{Some};
+ghost use Rattle.frame.specs.Refusals.{ofHeader, wordsFor};
+use std::fmt;
 
 /// What is wrong with a header.
 #[derive(Clone, Copy, PartialEq, Eq, Debug)]
@@ -15,5 +17,16 @@ impl HeaderRefusal {
         ensures { λ r. ⌜ r ≡ ofHeader self .number ⌝ }
     {
         self as u8
+    }
+}
+
+pub impl fmt::Display for HeaderRefusal as HeaderRefusalDisplay {
+    ghost shown = { λ r. Some (wordsFor r) };
+
+    fn fmt<W: fmt::Write>(&self, f: &mut fmt::Formatter<W>) -> fmt::Result {
+        match self {
+            HeaderRefusal::Crc4Wrong => f.write_str("CRC-4 wrong"),
+            HeaderRefusal::SfWrong => f.write_str("SF wrong"),
+        }
     }
 }
