@@ -51,9 +51,13 @@ sfRight f h = eqb (h / 2 ^ 15) (sfOf f) && eqb (h / 2 ^ 7 % 2) 0
 abbrev pub fieldsOf : ℕ → Fields
 fieldsOf h = record { c6 = h / 2 ^ 14 % 2; in6 = h / 2 ^ 13 % 2; «data» = h / 2 ^ 8 % 2 ^ 5 * 2 ^ 3 + h / 2 ^ 4 % 2 ^ 3 }
 
--- a header read as that of frame f; the CRC-4 is judged before the SF bits, and In6 is not judged
+-- the fields, or the refusal: a wrong CRC-4 is told before a wrong SF bit
+abbrev pub verdictOf : Bool → Bool → Fields → Result Fields Refused
+verdictOf crc4 sf fields = cond crc4 (cond sf (Ok fields) (Err sfRefused)) (Err crc4Refused)
+
+-- a header read as that of frame f; In6 is not judged
 unfoldable pub readOf : ℕ → ℕ → Result Fields Refused
-readOf f h = cond (crc4Right h) (cond (sfRight f h) (Ok (fieldsOf h)) (Err sfRefused)) (Err crc4Refused)
+readOf f h = verdictOf (crc4Right h) (sfRight f h) (fieldsOf h)
 
 -- what was written for frame f, as it is read back
 abbrev pub written : ℕ → ℕ → ℕ → Fields

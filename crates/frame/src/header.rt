@@ -4,7 +4,7 @@ ghost use mathlib.Core.Path.{_≡_};
 ghost use Prim.Native.Nat.{ℕ, _+_, _*_, _/_, _%_, _^_, _<_};
 ghost use lib.Bits.{bitXor};
 ghost use Rattle.std.specs.declared.result.Result.the-variants.{Ok, Err};
-ghost use Rattle.frame.specs.Header.{bitOf, sfOf, in6Of, headerOf, readOf, written};
+ghost use Rattle.frame.specs.Header.{bitOf, sfOf, in6Of, headerOf, crc4Right, sfRight, fieldsOf, verdictOf, readOf, written};
 ghost use Rattle.frame.specs.Refusals.{judged, ofHeader, crc4Refused};
 use crate::crc4;
 use crate::refusal::HeaderRefusal;
@@ -71,19 +71,49 @@ pub fn write(frame: u8, c6: u8, data: u8) -> u16
     joined(twelve, 4, crc4::of_twelve(twelve))
 }
 
+// Whether the four lowest bits of a header are the CRC-4 of the twelve others.
+fn crc4_right(header: u16) -> bool
+    ensures { λ r. ⌜ r ≡ crc4Right header ⌝ }
+{
+    cut(header, 0, 4) == crc4::of_twelve(header >> 4)
+}
+
+// Whether both SF bits of a header are those of a frame.
+fn sf_right(frame: u8, header: u16) -> bool
+    ensures { λ r. ⌜ r ≡ sfRight frame header ⌝ }
+{
+    cut(header, 15, 1) == sf_of(frame) && cut(header, 7, 1) == 0
+}
+
+// The fields of a header, as they stand in it.
+fn fields_of(header: u16) -> Fields
+    ensures { λ r. ⌜ r ≡ fieldsOf header ⌝ }
+{
+    Fields {
+        c6: cut(header, 14, 1) as u8,
+        in6: cut(header, 13, 1) as u8,
+        data: joined(cut(header, 8, 5), 3, cut(header, 4, 3)) as u8,
+    }
+}
+
+// The fields, or the refusal: a wrong CRC-4 is told before a wrong SF bit.
+fn verdict(crc4: bool, sf: bool, fields: Fields) -> Result<Fields, HeaderRefusal>
+    ensures { λ r. ⌜ judged ofHeader r ≡ verdictOf crc4 sf fields ⌝ }
+{
+    match (crc4, sf) {
+        (false, _) => Err(HeaderRefusal::Crc4Wrong),
+        (_, false) => Err(HeaderRefusal::SfWrong),
+        _ => Ok(fields),
+    }
+}
+
 /// What the header of a frame carries. In6 is not judged.
 pub fn read(frame: u8, header: u16) -> Result<Fields, HeaderRefusal>
     ensures { λ r. ⌜ judged ofHeader r ≡ readOf frame header ⌝ }
 {
-    if cut(header, 0, 4) != crc4::of_twelve(header >> 4) {
-        return Err(HeaderRefusal::Crc4Wrong);
-    }
-    if cut(header, 15, 1) != sf_of(frame) || cut(header, 7, 1) != 0 {
-        return Err(HeaderRefusal::SfWrong);
-    }
-    Ok(Fields {
-        c6: cut(header, 14, 1) as u8,
-        in6: cut(header, 13, 1) as u8,
-        data: joined(cut(header, 8, 5), 3, cut(header, 4, 3)) as u8,
-    })
+    verdict(
+        crc4_right(header),
+        sf_right(frame, header),
+        fields_of(header),
+    )
 }
