@@ -1,10 +1,9 @@
 -- A register fed with bits and bytes: its bound, the next byte, and parts one after the other. Assumes nothing.
 use mathlib.Core.Path.{_≡_, refl, sym, ap, _∙_}
 use mathlib.Core.List.{List, [], _∷_, _++_, append-assoc}
-use Prim.Native.Nat.{ℕ, _-_, _%_, _^_, _<_}
+use Prim.Native.Nat.{ℕ, _%_, _^_, _<_}
 use native.Mathlib.Nat.{mod-eq-of-lt}
 use native.Mathlib.Omega.{arith}
-use lib.Bits.{bitXor}
 use lib.Dec.{lit<}
 use Rattle.std.proofs.shelf.Bits.{mod-below, pow-pos}
 use Rattle.frame.specs.Checks.{ones, fedBits, fed, InParts, crc6Fed, crc6End}
@@ -14,9 +13,6 @@ use Rattle.frame.proofs.Steps.{divided-append, divided-nil, divided-below, mes
 pub fedBits-below : (d l r : ℕ) (bs : List ℕ) → l < 2 ^ d → Bits bs → fedBits d l r bs < 2 ^ d
 unfolding fedBits
 fedBits-below d l r bs hl hb = divided-below d l (r % 2 ^ d) bs hl (mod-below r (2 ^ d) (pow-pos d)) hb
-
-pub fed-below : (d l r : ℕ) (bytes : List ℕ) → l < 2 ^ d → fed d l r bytes < 2 ^ d
-fed-below d l r bytes hl = fedBits-below d l r (message bytes) hl (message-are-bits bytes)
 
 -- a register within its d bits counts whole
 pub fedBits-within : (d l r : ℕ) (bs : List ℕ) → r < 2 ^ d → fedBits d l r bs ≡ divided d l r bs
@@ -54,11 +50,7 @@ ones-below d = omega (arith, pow-pos d)
 
 -- the same of CRC-6
 pub crc6Fed-append : (r : ℕ) (xs ys : List ℕ) → crc6Fed r (xs ++ ys) ≡ crc6Fed (crc6Fed r xs) ys
-unfolding crc6Fed
 crc6Fed-append r xs ys = fed-append 6 3 r xs ys (lit< tt)
 
 pub crc6End-nil : (r : ℕ) → crc6End (crc6Fed r []) ≡ crc6End r
-unfolding crc6Fed crc6End
-crc6End-nil r =
-    let cut : fed 6 3 r [] % 64 ≡ r % 64 = ap (λ x. x % 64) (fed-nil 6 3 r) ∙ mod-eq-of-lt (mod-below r 64 (lit< tt)) in
-    ap (λ x. bitXor x 63) cut
+crc6End-nil r = ap crc6End (fed-nil 6 3 r) ∙ omega arith

@@ -1,13 +1,12 @@
 -- What the parts of a header come to, and the laws of headers. Assumes nothing.
-use mathlib.Core.Path.{_≡_, refl, sym, ap, ap₂, _∙_}
+use mathlib.Core.Path.{_≡_, refl, sym, ap, _∙_}
 use mathlib.Core.Bool.{cond}
 use mathlib.Core.List.{[], _∷_}
-use Prim.Native.Nat.{ℕ, zero, suc, _+_, _-_, _*_, _/_, _%_, _^_, _<_, _≤_}
+use Prim.Native.Nat.{ℕ, zero, suc, _+_, _-_, _*_, _/_, _%_, _^_, _<_}
 use native.Mathlib.Omega.{arith}
 use lib.Bits.{bitXor}
-use lib.Dec.{eqb, leb, lit<}
+use lib.Dec.{eqb, lit<}
 use lib.ListN.{getD}
-use mir.Val.{boolByte}
 use Rattle.std.proofs.shelf.Bits.{xor-shr, xor-mod}
 use Rattle.std.proofs.shelf.Tests.{eq-eqb, ne-eqb}
 use Rattle.std.proofs.shelf.Ways.{tells}
@@ -16,20 +15,15 @@ use Rattle.std.specs.declared.result.Result.the-variants.{Ok, Err}
 use Rattle.frame.specs.declared.header.Fields.{Fields}
 use Rattle.frame.specs.Checks.{fedBits, crc4Of}
 use Rattle.frame.specs.Division.{reduced, stepped, divided, bits}
-use Rattle.frame.specs.Header.{frameOf, bitOf, sfOf, in6Of, firstByte, twelveOf, headerOf, crc4Right, sfRight, fieldsOf, readOf, written}
+use Rattle.frame.specs.Header.{frameOf, bitOf, sfOf, in6Of, twelveOf, headerOf, readOf, written}
 use Rattle.frame.specs.Refusals.{Refused, crc4Refused}
 use Rattle.frame.proofs.Feeding.{fedBits-below}
 use Rattle.frame.proofs.Linear.{divided-bits-add}
 use Rattle.frame.proofs.Steps.{bits-are-bits}
 use Rattle.frame.proofs.Sums.{cancel-front}
-use Rattle.frame.proofs.Tables.{allBelow, same-below}
-
-pub sf-is : (f : ℕ) → boolByte (leb f 1) ≡ sfOf f
-unfolding sfOf
-sf-is f = grind (arith, tells)
+use Rattle.frame.proofs.Tables.{same-below}
 
 pub sf-below : (f : ℕ) → sfOf f < 2
-unfolding sfOf
 sf-below f = grind (arith, tells)
 
 pub in6-listed : (k : ℕ) → getD (0 ∷ 1 ∷ 0 ∷ 1 ∷ 1 ∷ 1 ∷ []) k 0 < 2
@@ -42,11 +36,9 @@ in6-listed (suc (suc (suc (suc (suc zero))))) = lit< tt
 in6-listed (suc (suc (suc (suc (suc (suc k)))))) = lit< tt
 
 pub in6-below : (f : ℕ) → in6Of f < 2
-unfolding in6Of
 in6-below f = in6-listed (frameOf f - 1)
 
 pub crc4-below : (v : ℕ) → crc4Of v < 16
-unfolding crc4Of
 crc4-below v = fedBits-below 4 3 15 (bits 12 v) (lit< tt) (bits-are-bits 12 v)
 
 -- where the parts of a header x stand, in plain numbers
@@ -129,7 +121,7 @@ told-apart f c d c′ d′ h h′ e =
 
 -- the CRC-4 of a sum, and the register of zeros with the changed bits
 crc4-add : (v e : ℕ) → crc4Of (bitXor v e) ≡ bitXor (crc4Of v) (divided 4 3 0 (bits 12 e))
-unfolding crc4Of fedBits
+unfolding fedBits
 crc4-add v e = divided-bits-add 12 4 3 15 0 v e (lit< tt) (lit< tt) (lit< tt)
 
 -- a header whose CRC-4 is right, with the bits of e changed, is refused unless e by itself would be right from a register of 0

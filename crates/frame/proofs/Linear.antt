@@ -5,11 +5,11 @@ use mathlib.Core.Logic.{⊎-elim}
 use Prim.Native.Nat.{ℕ, zero, suc, _+_, _*_, _/_, _%_, _^_, _<_, _≤_}
 use native.Mathlib.Nat.{div-eq-of-lt}
 use native.Mathlib.Omega.{arith}
-use lib.Bits.{bitXor, xor-comm, xor-lt, xor-zero-l, xor-zero-r}
-use Rattle.std.proofs.shelf.Bits.{xor-shr, xor-mod, mod-below, shr-below}
+use lib.Bits.{bitXor, xor-comm, xor-lt, xor-zero-r}
+use Rattle.std.proofs.shelf.Bits.{xor-shr, xor-mod, shr-below}
 use Rattle.std.proofs.shelf.Tests.{cases-lt}
 use Rattle.frame.specs.Division.{reduced, stepped, divided, bits, Bits}
-use Rattle.frame.proofs.Steps.{below-from-shr, above-from-shr, pow-next, reduced-low, reduced-high, widened-below, stepped-below, bits-are-bits}
+use Rattle.frame.proofs.Steps.{below-from-shr, above-from-shr, reduced-low, reduced-high, widened-below, stepped-below, bits-are-bits}
 use Rattle.frame.proofs.Sums.{swap-last, cancel-both, exchange, pow-xor, twice-xor}
 
 -- a summand of a degree below d leaves the terms from x^d on as they are

@@ -3,13 +3,12 @@ use mathlib.Core.Path.{_≡_, refl, sym, ap, ap₂, _∙_}
 use mathlib.Core.List.{List, [], _∷_, _++_}
 use mathlib.Core.Logic.{⊎-elim}
 use Prim.Native.Nat.{ℕ, zero, suc, _+_, _-_, _*_, _/_, _%_, _^_, _<_, _≤_}
-use native.Mathlib.Nat.{zero-mul, div-eq-of-lt, mod-eq-of-lt}
+use native.Mathlib.Nat.{zero-mul, div-eq-of-lt}
 use native.Mathlib.Omega.{arith}
 use borrow.Author.Tests.{lt-ltb, le-ltb}
 use lib.Bits.{bitAnd, bitXor, and-mask, xor-block, xor-lt}
 use Rattle.std.proofs.shelf.Bits.{shl-whole, one-shl, shl-below, shr-split, mod-below, pow-pos, pow-add}
 use Rattle.std.proofs.shelf.Tests.{cases-lt}
-use Rattle.frame.specs.Checks.{fedBits}
 use Rattle.frame.specs.Division.{reduced, stepped, divided, bits, message, Bits}
 
 pub below-from-shr : (t d : ℕ) → t / 2 ^ d ≡ 0 → t < 2 ^ d

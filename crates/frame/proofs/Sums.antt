@@ -2,7 +2,7 @@
 use mathlib.Core.Path.{_≡_, sym, ap, ap₂, _∙_}
 use Prim.Native.Nat.{ℕ, _+_, _*_, _^_}
 use native.Mathlib.Omega.{arith}
-use lib.Bits.{bitXor, xor-block, xor-assoc, xor-comm, xor-self, xor-zero-l, xor-zero-r}
+use lib.Bits.{bitXor, xor-block, xor-assoc, xor-comm, xor-self, xor-zero-l}
 use Rattle.std.proofs.shelf.Bits.{pow-pos}
 
 pub swap-last : (a b c : ℕ) → bitXor (bitXor a b) c ≡ bitXor (bitXor a c) b
@@ -14,10 +14,6 @@ cancel-front g t = sym (xor-assoc g g t) ∙ ap (λ x. bitXor x t) (xor-self g) 
 
 pub cancel-both : (a b g : ℕ) → bitXor (bitXor a g) (bitXor b g) ≡ bitXor a b
 cancel-both a b g = xor-assoc a g (bitXor b g) ∙ ap (bitXor a) (ap (bitXor g) (xor-comm b g) ∙ cancel-front g b)
-
--- a sum that changes nothing is a sum with 0
-pub unchanged : (a b : ℕ) → bitXor a b ≡ a → b ≡ 0
-unchanged a b e = sym (cancel-front a b) ∙ ap (bitXor a) e ∙ xor-self a
 
 -- four summands, two and two
 pub exchange : (a b c d : ℕ) → bitXor (bitXor a b) (bitXor c d) ≡ bitXor (bitXor a c) (bitXor b d)

@@ -1,10 +1,10 @@
 -- A byte at once by a table, for CRC-6. Assumes nothing.
-use mathlib.Core.Path.{_≡_, refl, sym, ap, ap₂, _∙_}
+use mathlib.Core.Path.{_≡_, refl, sym, ap, _∙_}
 use mathlib.Core.Bool.{Bool, true, _&&_}
 use mathlib.Core.List.{map}
-use Prim.Native.Nat.{ℕ, zero, suc, _+_, _*_, _%_, _^_, _<_}
+use Prim.Native.Nat.{ℕ, zero, suc, _*_, _<_}
 use native.Mathlib.Omega.{arith}
-use lib.Bits.{bitXor, xor-self, xor-zero-r}
+use lib.Bits.{bitXor, xor-self}
 use lib.Dec.{eqb, lit<}
 use lib.ListN.{getD}
 use Rattle.std.proofs.shelf.Counted.{getD-map-counting}

@@ -2,10 +2,10 @@
 -- Assumes nothing.
 use mathlib.Core.List.{List, _++_}
 use mathlib.Core.Path.{_≡_}
-use Prim.Native.Nat.{ℕ, _-_, _*_, _%_, _^_}
+use Prim.Native.Nat.{ℕ, _-_, _*_, _%_, _^_, _<_}
 use lib.Bits.{bitXor}
 use lib.ListN.{length}
-use Rattle.frame.specs.Division.{divided, bits, message, polynomial}
+use Rattle.frame.specs.Division.{divided, bits, message, polynomial, Remainder}
 
 -- the largest degree of a check; nothing below names another bound on degrees
 abbrev pub mostDegree : ℕ
@@ -34,16 +34,20 @@ remainderOf d l bytes = fed d l (ones d) bytes
 abbrev pub dividend : ℕ → List ℕ → ℕ
 dividend d bs = bitXor (polynomial 0 bs * 2 ^ d) (ones d * 2 ^ length bs)
 
--- CRC-6 divides by x^6 + x + 1 and is complemented at the end; over no byte it is 0
-unfoldable pub crc6Fed : ℕ → List ℕ → ℕ
-crc6Fed r bytes = fed 6 3 r bytes
+-- the remainder of a check is what a division of that by x^d + l leaves
+abbrev pub RemaindersDivide : Type 0
+RemaindersDivide = (d l : ℕ) (bytes : List ℕ) → l < 2 ^ d → Remainder d l (dividend d (message bytes)) (remainderOf d l bytes)
 
-unfoldable pub crc6End : ℕ → ℕ
-crc6End r = bitXor (r % 2 ^ 6) (ones 6)
+-- CRC-6 divides by x^6 + x + 1 and is complemented at the end; over no byte it is 0
+abbrev pub crc6Fed : ℕ → List ℕ → ℕ
+crc6Fed register bytes = fed 6 3 register bytes
+
+abbrev pub crc6End : ℕ → ℕ
+crc6End register = ones 6 - register % 2 ^ 6
 
 abbrev pub crc6Of : List ℕ → ℕ
 crc6Of bytes = crc6End (crc6Fed (ones 6) bytes)
 
 -- CRC-4 divides by x^4 + x + 1, goes over the twelve other bits of a header, and is not complemented
-unfoldable pub crc4Of : ℕ → ℕ
+abbrev pub crc4Of : ℕ → ℕ
 crc4Of twelve = fedBits 4 3 (ones 4) (bits 12 twelve)

@@ -20,11 +20,11 @@ abbrev pub bitOf : ℕ → ℕ
 bitOf c = min c 1
 
 -- SF in the first mini-frame of a frame: 1 in frame 1 alone; in the second mini-frame it is 0
-unfoldable pub sfOf : ℕ → ℕ
+abbrev pub sfOf : ℕ → ℕ
 sfOf f = cond (eqb (frameOf f) 1) 1 0
 
 -- In6 over the six frames
-unfoldable pub in6Of : ℕ → ℕ
+abbrev pub in6Of : ℕ → ℕ
 in6Of f = getD (0 ∷ 1 ∷ 0 ∷ 1 ∷ 1 ∷ 1 ∷ []) (frameOf f - 1) 0
 
 -- the first byte: SF, C6, In6, Data 7 to 3

@@ -1,6 +1,8 @@
 -- The headers of a superframe: an event over its six frames. Assumes nothing.
-use mathlib.Core.List.{List, _∷_, map}
-use Prim.Native.Nat.{ℕ, _-_, _/_, _%_, _^_}
+use mathlib.Core.Bool.{cond}
+use mathlib.Core.List.{List, map}
+use Prim.Native.Nat.{ℕ, _-_, _/_, _%_, _^_, min}
+use lib.Dec.{leb}
 use lib.ListN.{getD}
 use Rattle.std.specs.Iters.{counting}
 use Rattle.frame.specs.declared.event.Event.{Event}
@@ -16,11 +18,11 @@ codeOf ConfigSw = 2
 codeOf Sync = 255
 
 -- Data of frame f: the event's code in frame 1, Value[0] to Value[4] in frames 2 to 6
-unfoldable pub dataOf : Event → ℕ → ℕ
-dataOf e f = getD (e .code ∷ e .values) (frameOf f - 1) 0
+abbrev pub dataOf : Event → ℕ → ℕ
+dataOf e f = cond (leb f 1) (e .code) (getD (e .values) (min f 6 - 2) 0)
 
 -- the C6 bit of frame f: the six bits of a CRC-6, the highest first
-unfoldable pub c6Of : ℕ → ℕ → ℕ
+abbrev pub c6Of : ℕ → ℕ → ℕ
 c6Of crc f = crc / 2 ^ (6 - frameOf f) % 2
 
 -- the headers of the six frames

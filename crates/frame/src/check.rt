@@ -1,10 +1,9 @@
 // Checks (CRC). A check is told by its degree and its lower terms, and one text serves every check.
 // A register is a number whose bit of weight 2^k is the coefficient of x^k; bits go in most significant first.
-ghost use mathlib.Core.List.{List, _++_};
 ghost use mathlib.Core.Path.{_≡_};
-ghost use Prim.Native.Nat.{ℕ, _*_, _-_, _%_, _^_, _<_, _≤_};
-ghost use Rattle.frame.specs.Checks.{mostDegree, ones, fedBits, fed, InParts, remainderOf, dividend};
-ghost use Rattle.frame.specs.Division.{stepped, divided, bits, message, Remainder};
+ghost use Prim.Native.Nat.{ℕ, _-_, _^_, _<_, _≤_};
+ghost use Rattle.frame.specs.Checks.{mostDegree, ones, fedBits, fed, InParts, remainderOf, RemaindersDivide};
+ghost use Rattle.frame.specs.Division.{stepped, bits};
 
 /// A check by its divisor, x^DEGREE + LOWER.
 pub trait Check {
@@ -32,15 +31,11 @@ pub trait Check {
 
     /// The register with one more byte.
     fn feed_byte(register: u64, byte: u8) -> u64
-        ensures { λ r. ⌜ r ≡ fedBits degree lower register (bits 8 byte) ⌝ }
+        ensures value { λ r. ⌜ r ≡ fedBits degree lower register (bits 8 byte) ⌝ }
+        ensures bound { λ r. ⌜ r < 2 ^ degree ⌝ }
     {
-        feed_bits(
-            Self::degree_of(),
-            Self::lower_of(),
-            register,
-            u64::from(byte),
-            8,
-        )
+        let byte = u64::from(byte);
+        feed_bits(Self::degree_of(), Self::lower_of(), register, byte, 8)
     }
 }
 
@@ -96,13 +91,18 @@ pub fn feed<C: Check>(register: u64, bytes: &[u8]) -> u64
     state
 }
 
-/// The remainder over some bytes: what a division by the check's divisor leaves.
+/// The remainder over some bytes.
 pub fn remainder<C: Check>(bytes: &[u8]) -> u64
     ensures value { λ r. ⌜ r ≡ remainderOf (C·Check .degree) (C·Check .lower) (now (bytes .entry)) ⌝ }
-    ensures divides { λ r. ⌜ Remainder (C·Check .degree) (C·Check .lower) (dividend (C·Check .degree) (message (now (bytes .entry)))) r ⌝ }
+    ensures bound { λ r. ⌜ r < 2 ^ (C·Check .degree) ⌝ }
 {
     feed::<C>(start::<C>(), bytes)
 }
+
+/// The remainder of a check is what a division of polynomials leaves.
+pub fn remainders_divide()
+    ensures { λ _. ⌜ RemaindersDivide ⌝ }
+{}
 
 /// x^4 + x + 1.
 pub struct Crc4;
@@ -114,7 +114,7 @@ pub impl Check for Crc4 as Crc4Check {
 
     const DEGREE: u32 = 4;
 
-    const LOWER: u64 = 3;
+    const LOWER: u64 = 0b0011;
 
     fn degree_of() -> u32 {
         Self::DEGREE
@@ -135,7 +135,7 @@ pub impl Check for Crc6 as Crc6Check {
 
     const DEGREE: u32 = 6;
 
-    const LOWER: u64 = 3;
+    const LOWER: u64 = 0b00_0011;
 
     fn degree_of() -> u32 {
         Self::DEGREE
@@ -145,11 +145,18 @@ pub impl Check for Crc6 as Crc6Check {
         Self::LOWER
     }
 
-    // The register's six bits stand over the byte's first six, so that one look-up serves both.
     fn feed_byte(register: u64, byte: u8) -> u64 {
-        let sum = ((register << 2) & 0xff) ^ u64::from(byte);
-        u64::from(AFTER_BYTE[sum as usize])
+        crc6_by_table(register, byte)
     }
+}
+
+// CRC-6 with one more byte: the register's six bits stand over the byte's first six, so that one look-up serves both.
+fn crc6_by_table(register: u64, byte: u8) -> u64
+    ensures value { λ r. ⌜ r ≡ fedBits 6 3 register (bits 8 byte) ⌝ }
+    ensures bound { λ r. ⌜ r < 2 ^ 6 ⌝ }
+{
+    let sum = ((register << 2) & 0xff) ^ u64::from(byte);
+    u64::from(AFTER_BYTE[sum as usize])
 }
 
 // What a CRC-6 register of zeros is after each byte.

@@ -13,11 +13,8 @@ pub fn of_twelve(bits: u16) -> u16
     ensures value { λ r. ⌜ r ≡ crc4Of bits ⌝ }
     ensures bound { λ r. ⌜ r < 16 ⌝ }
 {
-    feed_bits(
-        Crc4::degree_of(),
-        Crc4::lower_of(),
-        start::<Crc4>(),
-        u64::from(bits),
-        12,
-    ) as u16
+    let degree = Crc4::degree_of();
+    let lower = Crc4::lower_of();
+    let crc = feed_bits(degree, lower, start::<Crc4>(), u64::from(bits), 12);
+    crc as u16
 }

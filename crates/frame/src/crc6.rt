@@ -9,9 +9,10 @@ use crate::check::Crc6;
 use crate::check::Crc6Check;
 use crate::check::remainder;
 
-/// The register over no byte yet.
+/// The register over no byte yet. The check over no byte is 0.
 pub fn start() -> u8
-    ensures { λ r. ⌜ r ≡ ones 6 ⌝ }
+    ensures value { λ r. ⌜ r ≡ ones 6 ⌝ }
+    ensures checks_to_zero { λ r. ⌜ crc6End r ≡ 0 ⌝ }
 {
     crate::check::start::<Crc6>() as u8
 }
@@ -36,13 +37,12 @@ pub fn finish(register: u8) -> u8
     ensures value { λ r. ⌜ r ≡ crc6End register ⌝ }
     ensures bound { λ r. ⌜ r < 64 ⌝ }
 {
-    (register & 63) ^ 63
+    63 - register % 64
 }
 
 /// The check over some bytes, 0 over none.
 pub fn of_bytes(bytes: &[u8]) -> u8
-    ensures value { λ r. ⌜ r ≡ crc6Of (now (bytes .entry)) ⌝ }
-    ensures nothing { λ r. ⌜ (now (bytes .entry) ≡ [] → r ≡ 0) ⌝ }
+    ensures { λ r. ⌜ r ≡ crc6Of (now (bytes .entry)) ⌝ }
 {
     finish(remainder::<Crc6>(bytes) as u8)
 }

@@ -1,6 +1,6 @@
 // Events, and the headers that carry one through a superframe.
 ghost use mathlib.Core.Path.{_≡_};
-ghost use Prim.Native.Nat.{_<_};
+ghost use Rattle.frame.specs.Header.{headerOf};
 ghost use Rattle.frame.specs.Superframe.{codeOf, dataOf, c6Of, headersOf};
 use crate::header::write;
 
@@ -45,17 +45,26 @@ impl Event {
 pub fn c6_bit(crc: u8, frame: u8) -> u8
     ensures { λ r. ⌜ r ≡ c6Of crc frame ⌝ }
 {
-    (crc >> (6 - frame.clamp(1, 6))) & 1
+    (crc >> (6 - frame.clamp(1, 6))) % 2
+}
+
+// The header of one frame of a superframe.
+fn header_of(crc: u8, event: Event, frame: u8) -> u16
+    ensures { λ r. ⌜ r ≡ headerOf frame (c6Of crc frame) (dataOf event frame) ⌝ }
+{
+    write(frame, c6_bit(crc, frame), event.data(frame))
 }
 
 /// The headers of a superframe's six frames.
 pub fn headers(crc: u8, event: Event) -> [u16; 6]
     ensures { λ r. ⌜ r ≡ headersOf crc event ⌝ }
 {
-    let mut headers = [0; 6];
-    for (place, header) in headers.iter_mut().enumerate() {
-        let frame = place as u8 + 1;
-        *header = write(frame, c6_bit(crc, frame), event.data(frame));
-    }
-    headers
+    [
+        header_of(crc, event, 1),
+        header_of(crc, event, 2),
+        header_of(crc, event, 3),
+        header_of(crc, event, 4),
+        header_of(crc, event, 5),
+        header_of(crc, event, 6),
+    ]
 }

@@ -4,7 +4,7 @@ ghost use mathlib.Core.Path.{_≡_};
 ghost use Prim.Native.Nat.{ℕ, _+_, _*_, _/_, _%_, _^_, _<_};
 ghost use lib.Bits.{bitXor};
 ghost use Rattle.std.specs.declared.result.Result.the-variants.{Ok, Err};
-ghost use Rattle.frame.specs.Header.{bitOf, sfOf, in6Of, headerOf, crc4Right, sfRight, fieldsOf, verdictOf, readOf, written};
+ghost use Rattle.frame.specs.Header.{bitOf, sfOf, in6Of, twelveOf, headerOf, crc4Right, sfRight, fieldsOf, verdictOf, readOf, written};
 ghost use Rattle.frame.specs.Refusals.{judged, ofHeader, crc4Refused};
 use crate::crc4;
 use crate::refusal::HeaderRefusal;
@@ -54,6 +54,19 @@ fn in6_of(frame: u8) -> u16
     IN6[usize::from(frame.clamp(1, 6)) - 1]
 }
 
+// The twelve bits of a header that its CRC-4 is over.
+fn twelve_of(frame: u8, c6: u8, data: u8) -> u16
+    ensures value { λ r. ⌜ r ≡ twelveOf frame c6 «data» ⌝ }
+    ensures bound { λ r. ⌜ r < 2 ^ 12 ⌝ }
+{
+    let sf = sf_of(frame);
+    let c6 = u16::from(c6.min(1));
+    let in6 = in6_of(frame);
+    let start = joined(joined(sf, 1, c6), 1, in6);
+    let first = joined(start, 5, u16::from(data >> 3));
+    joined(first, 4, u16::from(data % 8))
+}
+
 /// The header of a frame with its C6 bit, where any other than 0 counts as 1, and Data.
 pub fn write(frame: u8, c6: u8, data: u8) -> u16
     ensures value { λ r. ⌜ r ≡ headerOf frame c6 «data» ⌝ }
@@ -61,13 +74,7 @@ pub fn write(frame: u8, c6: u8, data: u8) -> u16
     ensures told_apart { λ r. ⌜ ((c d : ℕ) → d < 256 → headerOf frame c d ≡ r → (bitOf c ≡ bitOf c6) × (d ≡ «data»)) ⌝ }
     ensures changed_bit_refused { λ r. ⌜ ((k : ℕ) → k < 16 → readOf frame (bitXor r (2 ^ k)) ≡ Err crc4Refused) ⌝ }
 {
-    let data = u16::from(data);
-    let start = joined(
-        joined(sf_of(frame), 1, u16::from(c6.min(1))),
-        1,
-        in6_of(frame),
-    );
-    let twelve = joined(joined(start, 5, data >> 3), 4, data & 7);
+    let twelve = twelve_of(frame, c6, data);
     joined(twelve, 4, crc4::of_twelve(twelve))
 }
 

@@ -18,15 +18,22 @@ impl HeaderRefusal {
     {
         self as u8
     }
+
+    /// What a person is told.
+    pub fn words(self) -> &'static str
+        ensures { λ r. ⌜ now r ≡ wordsFor self ⌝ }
+    {
+        match self {
+            HeaderRefusal::Crc4Wrong => "CRC-4 wrong",
+            HeaderRefusal::SfWrong => "SF wrong",
+        }
+    }
 }
 
 pub impl fmt::Display for HeaderRefusal as HeaderRefusalDisplay {
     ghost shown = { λ r. Some (wordsFor r) };
 
     fn fmt<W: fmt::Write>(&self, f: &mut fmt::Formatter<W>) -> fmt::Result {
-        match self {
-            HeaderRefusal::Crc4Wrong => f.write_str("CRC-4 wrong"),
-            HeaderRefusal::SfWrong => f.write_str("SF wrong"),
-        }
+        f.write_str(self.words())
     }
 }

@@ -1,5 +1,5 @@
 -- What a command answers, from its words. Assumes nothing.
-use mathlib.Core.Bool.{Bool, cond, _&&_}
+use mathlib.Core.Bool.{cond}
 use mathlib.Core.List.{List, [], _∷_, map}
 use Prim.Native.Nat.{ℕ, _+_, _*_}
 use lib.Chars.{codes}
@@ -15,7 +15,6 @@ use Rattle.frame.specs.Checks.{ones, crc6Fed, crc6End}
 use Rattle.frame.specs.Header.{headerOf, readOf}
 use Rattle.frame.specs.Refusals.{Refused, ofHeader}
 use Rattle.frame.specs.Superframe.{headersOf}
-use Rattle.frame.specs.declared.event.Event.{Event}
 use Rattle.frame.specs.declared.header.Fields.{Fields}
 use Rattle.trench.specs.declared.answer.Answer.{Answer}
 use Rattle.trench.specs.declared.answer.Answer.the-variants.{Header, Carried, Headers, Crc6, Refusal}
@@ -23,7 +22,6 @@ use Rattle.trench.specs.declared.command.Verb.{Verb}
 use Rattle.trench.specs.declared.command.Verb.the-variants.{HeaderWrite as HeaderWriteVerb, HeaderRead as HeaderReadVerb, Superframe as SuperframeVerb, Crc6 as Crc6Verb}
 use Rattle.trench.specs.declared.fault.Fault.{Fault}
 use Rattle.trench.specs.declared.fault.Fault.the-variants.{Unknown, Takes}
-use Rattle.trench.specs.declared.fault.Field.{Field}
 use Rattle.trench.specs.declared.fault.Field.the-variants.{Frame, C6, Data, C6Bits, Code, Value}
 use Rattle.trench.specs.declared.fault.Form.{Form}
 use Rattle.trench.specs.declared.fault.Form.the-variants.{HeaderWrite, HeaderRead, Superframe}

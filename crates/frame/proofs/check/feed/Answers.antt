@@ -1,6 +1,6 @@
 use mathlib.Core.Path.{_≡_, sym, ap, _∙_}
-use mathlib.Core.List.{[], _∷_, _++_}
-use Prim.Native.Nat.{_+_, _%_, _^_}
+use mathlib.Core.List.{_++_}
+use Prim.Native.Nat.{_+_, _^_}
 use native.Mathlib.Nat.{mod-eq-of-lt}
 use lib.Bits.{bitAnd, and-mask}
 use lib.ListN.{drop, getD}
@@ -8,7 +8,7 @@ use Rattle.std.proofs.shelf.Bits.{mod-below, pow-pos}
 use Rattle.std.proofs.shelf.Lists.{at-drop-more, at-drop-all}
 use Rattle.frame.specs.Checks.{fedBits, fed}
 use Rattle.frame.specs.Division.{bits, message}
-use Rattle.frame.proofs.Feeding.{fed-cut, fedBits-append, fedBits-below, fed-nil, in-parts}
+use Rattle.frame.proofs.Feeding.{fed-cut, fedBits-append, fed-nil, in-parts}
 use Rattle.frame.proofs.Steps.{bits-are-bits}
 use Rattle.frame.proofs.check.feed.Needs as need
 
@@ -32,7 +32,7 @@ loop-byte-again g c =
     let next : fed d l r (drop i xs) ≡ fedBits d l r (bits 8 x ++ message (drop (i + 1) xs)) =
     at-drop-more (fed d l r) xs i 0 (c .loop-byte-test .taken) in
     let parts = fedBits-append d l r (bits 8 x) (message (drop (i + 1) xs)) below (bits-are-bits 8 x) in
-    (cc, rw (c .feed-byte-state .ensures) (fedBits-below d l r (bits 8 x) below (bits-are-bits 8 x)))
+    (cc, c .feed-byte-state .ensures .bound)
 
 pub returns : need.returns
 returns g c =

@@ -1,19 +1,15 @@
-use mathlib.Core.Path.{_≡_, sym, ap, _∙_}
+use mathlib.Core.Path.{_≡_, ap, _∙_}
 use Prim.Native.Nat.{_^_, _<_}
 use native.Mathlib.Omega.{arith}
-use lib.Bits.{bitXor, and-mask}
+use lib.Bits.{bitXor}
 use Rattle.frame.specs.Checks.{crc4Of}
-use Rattle.frame.specs.Header.{twelveOf, headerOf, readOf}
+use Rattle.frame.specs.Header.{headerOf, readOf}
 use Rattle.frame.proofs.Headers.{read-back, told-apart, changed-bit-refused}
 use Rattle.frame.proofs.header.write.Needs as need
 
-value : (c : need.After-joined-3) → c .joined-3 .result ≡ headerOf (c .args .frame) (c .args .c6) (c .args .data)
+value : (c : need.After-joined) → c .joined .result ≡ headerOf (c .args .frame) (c .args .c6) (c .args .data)
 unfolding headerOf
-value c =
-    let low = and-mask (c .from-data .result) 3 in
-    let twelve : c .joined-twelve .result ≡ twelveOf (c .args .frame) (c .args .c6) (c .args .data) = omega arith in
-    let check = ap crc4Of twelve in
-    omega arith
+value c = let check = ap crc4Of (c .twelve-of-twelve .ensures .value) in omega arith
 
 pub returns : need.returns
 returns c =
