@@ -30,7 +30,8 @@ InParts d l before bytes r = (first rest : List ℕ) → first ++ rest ≡ bytes
 abbrev pub remainderOf : ℕ → ℕ → List ℕ → ℕ
 remainderOf d l bytes = fed d l (ones d) bytes
 
--- what is divided by then: the message times x^d, with ones added in its d highest places, which complements its first d bits
+-- what is divided by then: the message times x^d, with ones added in its d highest places, which complements its first d
+-- bits
 abbrev pub dividend : ℕ → List ℕ → ℕ
 dividend d bs = bitXor (polynomial 0 bs * 2 ^ d) (ones d * 2 ^ length bs)
 
@@ -39,15 +40,27 @@ abbrev pub RemaindersDivide : Type 0
 RemaindersDivide = (d l : ℕ) (bytes : List ℕ) → l < 2 ^ d → Remainder d l (dividend d (message bytes)) (remainderOf d l bytes)
 
 -- CRC-6 divides by x^6 + x + 1 and is complemented at the end; over no byte it is 0
+abbrev pub crc6Degree : ℕ
+crc6Degree = 6
+
+abbrev pub crc6Lower : ℕ
+crc6Lower = 3
+
 abbrev pub crc6Fed : ℕ → List ℕ → ℕ
-crc6Fed register bytes = fed 6 3 register bytes
+crc6Fed register bytes = fed crc6Degree crc6Lower register bytes
 
 abbrev pub crc6End : ℕ → ℕ
-crc6End register = ones 6 - register % 2 ^ 6
+crc6End register = ones crc6Degree - register % 2 ^ crc6Degree
 
 abbrev pub crc6Of : List ℕ → ℕ
-crc6Of bytes = crc6End (crc6Fed (ones 6) bytes)
+crc6Of bytes = crc6End (crc6Fed (ones crc6Degree) bytes)
 
 -- CRC-4 divides by x^4 + x + 1, goes over the twelve other bits of a header, and is not complemented
+abbrev pub crc4Degree : ℕ
+crc4Degree = 4
+
+abbrev pub crc4Lower : ℕ
+crc4Lower = 3
+
 abbrev pub crc4Of : ℕ → ℕ
-crc4Of twelve = fedBits 4 3 (ones 4) (bits 12 twelve)
+crc4Of twelve = fedBits crc4Degree crc4Lower (ones crc4Degree) (bits 12 twelve)

@@ -11,9 +11,13 @@ use Rattle.frame.specs.declared.header.Fields.{Fields}
 use Rattle.frame.specs.Checks.{crc4Of}
 use Rattle.frame.specs.Refusals.{Refused, crc4Refused, sfRefused}
 
+-- a superframe's frames are numbered from 1 to 6
+abbrev pub lastFrame : ℕ
+lastFrame = 6
+
 -- a frame number below 1 counts as 1, above 6 as 6
 abbrev pub frameOf : ℕ → ℕ
-frameOf f = max 1 (min f 6)
+frameOf f = max 1 (min f lastFrame)
 
 -- a bit other than 0 counts as 1
 abbrev pub bitOf : ℕ → ℕ

@@ -2,7 +2,7 @@
 // A register is a number whose bit of weight 2^k is the coefficient of x^k; bits go in most significant first.
 ghost use mathlib.Core.Path.{_≡_};
 ghost use Prim.Native.Nat.{ℕ, _-_, _^_, _<_, _≤_};
-ghost use Rattle.frame.specs.Checks.{mostDegree, ones, fedBits, fed, InParts, remainderOf, RemaindersDivide};
+ghost use Rattle.frame.specs.Checks.{mostDegree, ones, fedBits, fed, InParts, remainderOf, RemaindersDivide, crc4Degree, crc4Lower, crc6Degree, crc6Lower};
 ghost use Rattle.frame.specs.Division.{stepped, bits};
 
 /// A check by its divisor, x^DEGREE + LOWER.
@@ -108,9 +108,9 @@ pub fn remainders_divide()
 pub struct Crc4;
 
 pub impl Check for Crc4 as Crc4Check {
-    ghost degree = { 4 };
+    ghost degree = { crc4Degree };
 
-    ghost lower = { 3 };
+    ghost lower = { crc4Lower };
 
     const DEGREE: u32 = 4;
 
@@ -129,9 +129,9 @@ pub impl Check for Crc4 as Crc4Check {
 pub struct Crc6;
 
 pub impl Check for Crc6 as Crc6Check {
-    ghost degree = { 6 };
+    ghost degree = { crc6Degree };
 
-    ghost lower = { 3 };
+    ghost lower = { crc6Lower };
 
     const DEGREE: u32 = 6;
 
@@ -152,8 +152,8 @@ pub impl Check for Crc6 as Crc6Check {
 
 // CRC-6 with one more byte: the register's six bits stand over the byte's first six, so that one look-up serves both.
 fn crc6_by_table(register: u64, byte: u8) -> u64
-    ensures value { λ r. ⌜ r ≡ fedBits 6 3 register (bits 8 byte) ⌝ }
-    ensures bound { λ r. ⌜ r < 2 ^ 6 ⌝ }
+    ensures value { λ r. ⌜ r ≡ fedBits crc6Degree crc6Lower register (bits 8 byte) ⌝ }
+    ensures bound { λ r. ⌜ r < 2 ^ crc6Degree ⌝ }
 {
     let sum = ((register << 2) & 0xff) ^ u64::from(byte);
     u64::from(AFTER_BYTE[sum as usize])

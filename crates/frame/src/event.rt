@@ -2,9 +2,10 @@
 ghost use mathlib.Core.Path.{_≡_};
 ghost use Rattle.frame.specs.Header.{headerOf};
 ghost use Rattle.frame.specs.Superframe.{codeOf, dataOf, c6Of, headersOf};
+use crate::header::LAST_FRAME;
 use crate::header::write;
 
-/// The codes of the events that the link knows.
+/// The events that the link knows, with their codes: evNull, evSyncChange, evConfigSw and evSync.
 #[derive(Clone, Copy, PartialEq, Eq, Debug)]
 pub enum EventCode {
     Null = 0,
@@ -36,7 +37,7 @@ impl Event {
     {
         match frame {
             0 | 1 => self.code,
-            _ => self.values[usize::from(frame.min(6)) - 2],
+            _ => self.values[usize::from(frame.min(LAST_FRAME)) - 2],
         }
     }
 }
@@ -45,7 +46,7 @@ impl Event {
 pub fn c6_bit(crc: u8, frame: u8) -> u8
     ensures { λ r. ⌜ r ≡ c6Of crc frame ⌝ }
 {
-    (crc >> (6 - frame.clamp(1, 6))) % 2
+    (crc >> (LAST_FRAME - frame.clamp(1, LAST_FRAME))) % 2
 }
 
 // The header of one frame of a superframe.

@@ -17,6 +17,9 @@ pub struct Fields {
     pub data: u8,
 }
 
+/// A superframe's frames are numbered from 1 to 6.
+pub const LAST_FRAME: u8 = 6;
+
 const IN6: [u16; 6] = [0, 1, 0, 1, 1, 1];
 
 // `high` with `width` more bits, `low`.
@@ -51,7 +54,7 @@ fn in6_of(frame: u8) -> u16
     ensures value { λ r. ⌜ r ≡ in6Of frame ⌝ }
     ensures bound { λ r. ⌜ r < 2 ⌝ }
 {
-    IN6[usize::from(frame.clamp(1, 6)) - 1]
+    IN6[usize::from(frame.clamp(1, LAST_FRAME)) - 1]
 }
 
 // The twelve bits of a header that its CRC-4 is over.

@@ -11,7 +11,7 @@ use Rattle.std.specs.declared.option.Option.the-variants.{Some, None}
 use Rattle.std.specs.declared.result.Result.{Result}
 use Rattle.std.specs.declared.result.Result.the-variants.{Ok, Err}
 use Rattle.std.specs.shelf.Text.{sameBytes}
-use Rattle.frame.specs.Checks.{ones, crc6Fed, crc6End}
+use Rattle.frame.specs.Checks.{crc6Of}
 use Rattle.frame.specs.Header.{headerOf, readOf}
 use Rattle.frame.specs.Refusals.{Refused, ofHeader}
 use Rattle.frame.specs.Superframe.{headersOf}
@@ -46,8 +46,14 @@ abbrev pub outcome : Result Answer Fault → Result Said Fault
 outcome (Ok a) = Ok (saidBy a)
 outcome (Err e) = Err e
 
--- the words as texts
-abbrev pub texts : List (RefT (List ℕ)) → List (List ℕ)
+-- a text is its bytes; the words of a line are references to texts
+abbrev pub Text : Type 0
+Text = List ℕ
+
+abbrev pub Words : Type 0
+Words = List (RefT Text)
+
+abbrev pub texts : Words → List Text
 texts words = map (λ w. w .now) words
 
 -- one part read after another; the first fault ends it
@@ -56,7 +62,7 @@ andThen (Ok x) f = f x
 andThen (Err e) f = Err e
 
 -- header write FRAME C6 DATA
-abbrev pub headerWritten : List ℕ → List ℕ → List ℕ → Result Said Fault
+abbrev pub headerWritten : Text → Text → Text → Result Said Fault
 headerWritten f c d =
     andThen (numberOf Frame f) (λ frame.
     andThen (numberOf C6 c) (λ bit.
@@ -67,14 +73,14 @@ abbrev pub readSaid : Result Fields Refused → Said
 readSaid (Ok fields) = carried fields
 readSaid (Err e) = refused e
 
-abbrev pub headerRead : List ℕ → List ℕ → List ℕ → Result Said Fault
+abbrev pub headerRead : Text → Text → Text → Result Said Fault
 headerRead f a b =
     andThen (numberOf Frame f) (λ frame.
     andThen (byteOf a) (λ first.
     andThen (byteOf b) (λ second. Ok (readSaid (readOf frame (first * 256 + second))))))
 
 -- superframe C6BITS CODE V0 V1 V2 V3 V4
-abbrev pub superframe : List ℕ → List ℕ → List ℕ → List ℕ → List ℕ → List ℕ → List ℕ → Result Said Fault
+abbrev pub superframe : Text → Text → Text → Text → Text → Text → Text → Result Said Fault
 superframe bits code v0 v1 v2 v3 v4 =
     andThen (numberOf C6Bits bits) (λ crc.
     andThen (numberOf Code code) (λ n.
@@ -85,35 +91,34 @@ superframe bits code v0 v1 v2 v3 v4 =
     andThen (numberOf Value v4) (λ e. Ok (headers (headersOf crc (record { code = n; values = a ∷ (b ∷ (c ∷ (d ∷ (e ∷ [])))) }))))))))))
 
 -- crc6 BYTE BYTE ...
-abbrev pub bytesOf : List (List ℕ) → Result (List ℕ) Fault
+abbrev pub bytesOf : List Text → Result (List ℕ) Fault
 bytesOf [] = Ok []
 bytesOf (w ∷ ws) = andThen (byteOf w) (λ b. andThen (bytesOf ws) (λ bs. Ok (b ∷ bs)))
 
--- the check over some bytes once a register has taken others
-abbrev pub checkedFrom : ℕ → List (List ℕ) → Result Said Fault
-checkedFrom register ws = andThen (bytesOf ws) (λ bs. Ok (crc6 (crc6End (crc6Fed register bs))))
+abbrev pub crc6Checked : List Text → Result Said Fault
+crc6Checked ws = andThen (bytesOf ws) (λ bs. Ok (crc6 (crc6Of bs)))
 
 -- the k-th word, counted from 0, or an empty one
-abbrev pub word : List (RefT (List ℕ)) → ℕ → List ℕ
+abbrev pub word : Words → ℕ → Text
 word words k = getD words k (record { ptr = (0, 0); name = 0; now = [] }) .now
 
 -- as many words as a command takes
-abbrev pub taking : ℕ → Form → List (RefT (List ℕ)) → Result Said Fault → Result Said Fault
+abbrev pub taking : ℕ → Form → Words → Result Said Fault → Result Said Fault
 taking n form words r = cond (eqb (length words) n) r (Err (Takes form))
 
 -- what stands after the words that name a command
-abbrev pub headerWriteCommand : List (RefT (List ℕ)) → Result Said Fault
+abbrev pub headerWriteCommand : Words → Result Said Fault
 headerWriteCommand words = taking 3 HeaderWrite words (headerWritten (word words 0) (word words 1) (word words 2))
 
-abbrev pub headerReadCommand : List (RefT (List ℕ)) → Result Said Fault
+abbrev pub headerReadCommand : Words → Result Said Fault
 headerReadCommand words = taking 3 HeaderRead words (headerRead (word words 0) (word words 1) (word words 2))
 
-abbrev pub superframeCommand : List (RefT (List ℕ)) → Result Said Fault
+abbrev pub superframeCommand : Words → Result Said Fault
 superframeCommand words =
     taking 7 Superframe words (superframe (word words 0) (word words 1) (word words 2) (word words 3) (word words 4) (word words 5) (word words 6))
 
--- the words that name a command, and how many they are
-abbrev pub verbOf : List ℕ → List ℕ → Option Verb
+-- the command that one or two words name
+abbrev pub verbOf : Text → Text → Option Verb
 verbOf first second =
     cond (sameBytes first (codes "header"))
     (cond (sameBytes second (codes "write")) (Some HeaderWriteVerb) (cond (sameBytes second (codes "read")) (Some HeaderReadVerb) None))
@@ -121,12 +126,12 @@ verbOf first second =
     (cond (sameBytes first (codes "crc6")) (Some Crc6Verb) None))
 
 -- the answer to a command
-abbrev pub answerBy : Option Verb → List (RefT (List ℕ)) → Result Said Fault
+abbrev pub answerBy : Option Verb → Words → Result Said Fault
 answerBy None words = Err Unknown
 answerBy (Some HeaderWriteVerb) words = headerWriteCommand (drop 2 words)
 answerBy (Some HeaderReadVerb) words = headerReadCommand (drop 2 words)
 answerBy (Some SuperframeVerb) words = superframeCommand (drop 1 words)
-answerBy (Some Crc6Verb) words = checkedFrom (ones 6) (texts (drop 1 words))
+answerBy (Some Crc6Verb) words = crc6Checked (texts (drop 1 words))
 
-abbrev pub answerTo : List (RefT (List ℕ)) → Result Said Fault
+abbrev pub answerTo : Words → Result Said Fault
 answerTo words = answerBy (verbOf (word words 0) (word words 1)) words

@@ -1,8 +1,7 @@
 // Commands: from the words of a line to what is answered.
 ghost use lib.ListN.{drop};
 ghost use mathlib.Core.Path.{_≡_};
-ghost use Rattle.frame.specs.Checks.{ones};
-ghost use Rattle.trench.specs.Commands.{outcome, texts, word, headerWritten, headerRead, superframe, checkedFrom, headerWriteCommand, headerReadCommand, superframeCommand, verbOf, answerTo};
+ghost use Rattle.trench.specs.Commands.{outcome, texts, word, headerWritten, headerRead, superframe, crc6Checked, headerWriteCommand, headerReadCommand, superframeCommand, verbOf, answerTo};
 use crate::answer::Answer;
 use crate::fault::Fault;
 use crate::fault::Field;
@@ -64,7 +63,7 @@ fn superframe_headers(
 
 // crc6 BYTE BYTE ...
 fn crc6_over(words: &[&str]) -> Result<Answer, Fault>
-    ensures { λ r. ⌜ outcome r ≡ checkedFrom (ones 6) (texts (now (words .entry))) ⌝ }
+    ensures { λ r. ⌜ outcome r ≡ crc6Checked (texts (now (words .entry))) ⌝ }
 {
     let mut register = crc6::start();
     for word in words {

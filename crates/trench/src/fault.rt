@@ -63,7 +63,7 @@ impl fmt::Display for Field as FieldDisplay {
             Field::Data => f.write_str("DATA"),
             Field::C6Bits => f.write_str("C6BITS"),
             Field::Code => f.write_str("CODE"),
-            Field::Value => f.write_str("a value of V0 to V4"),
+            Field::Value => f.write_str("each of V0 to V4"),
         }
     }
 }
