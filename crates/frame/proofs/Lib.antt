@@ -1,3 +1,4 @@
+pub mod Alone
 pub mod Feeding
 pub mod Headers
 pub mod Linear

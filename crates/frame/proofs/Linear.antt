@@ -13,7 +13,7 @@ use Rattle.frame.proofs.Steps.{below-from-shr, above-from-shr, reduced-low, re
 use Rattle.frame.proofs.Sums.{swap-last, cancel-both, exchange, pow-xor, twice-xor}
 
 -- a summand of a degree below d leaves the terms from x^d on as they are
-high-same : (d t s : ℕ) → s < 2 ^ d → bitXor t s / 2 ^ d ≡ t / 2 ^ d
+pub high-same : (d t s : ℕ) → s < 2 ^ d → bitXor t s / 2 ^ d ≡ t / 2 ^ d
 high-same d t s h = xor-shr t s d ∙ ap (bitXor (t / 2 ^ d)) (div-eq-of-lt h) ∙ xor-zero-r (t / 2 ^ d)
 
 reduced-one : (d l t s : ℕ) → 2 ^ d ≤ t → s < 2 ^ d → reduced d l (bitXor t s) ≡ bitXor (reduced d l t) (reduced d l s)
