@@ -4,6 +4,7 @@ use mathlib.Core.List.{List, [], _∷_, _++_, append-assoc}
 use Prim.Native.Nat.{ℕ, _%_, _^_, _<_}
 use native.Mathlib.Nat.{mod-eq-of-lt}
 use native.Mathlib.Omega.{arith}
+use lib.Bits.{bitAnd, and-mask}
 use lib.Dec.{lit<}
 use Rattle.std.proofs.shelf.Bits.{mod-below, pow-pos}
 use Rattle.frame.specs.Checks.{ones, fedBits, fed, InParts, crc6Fed, crc6End}
@@ -19,10 +20,13 @@ pub fedBits-within : (d l r : ℕ) (bs : List ℕ) → r < 2 ^ d → fedBits d l
 unfolding fedBits
 fedBits-within d l r bs h = ap (λ x. divided d l x bs) (mod-eq-of-lt h)
 
--- only the d lowest bits of a register count
-pub fed-cut : (d l r : ℕ) (bytes : List ℕ) → fed d l (r % 2 ^ d) bytes ≡ fed d l r bytes
+-- only the d lowest bits of a register count, and a mask of ones cuts them out
+pub masked-in : (d l r mask : ℕ) (bs : List ℕ) → mask ≡ ones d → (fedBits d l (bitAnd r mask) bs ≡ fedBits d l r bs) × (bitAnd r mask < 2 ^ d)
 unfolding fedBits
-fed-cut d l r bytes = fedBits-within d l (r % 2 ^ d) (message bytes) (mod-below r (2 ^ d) (pow-pos d))
+masked-in d l r mask bs e =
+    let is : bitAnd r mask ≡ r % 2 ^ d = ap (bitAnd r) e ∙ and-mask r d in
+    let within : r % 2 ^ d < 2 ^ d = mod-below r (2 ^ d) (pow-pos d) in
+    (ap (λ x. fedBits d l x bs) is ∙ fedBits-within d l (r % 2 ^ d) bs within, rw is within)
 
 pub fedBits-append : (d l r : ℕ) (xs ys : List ℕ) → l < 2 ^ d → Bits xs → fedBits d l r (xs ++ ys) ≡ fedBits d l (fedBits d l r xs) ys
 unfolding fedBits
@@ -40,10 +44,10 @@ fed-append d l r xs ys hl = ap (fedBits d l r) (message-append xs ys) ∙ fedBit
 pub in-parts : (d l r : ℕ) (bytes : List ℕ) → l < 2 ^ d → InParts d l r bytes (fed d l r bytes)
 in-parts d l r bytes hl first rest e = sym (fed-append d l r first rest hl) ∙ ap (fed d l r) e
 
--- no byte
-pub fed-nil : (d l r : ℕ) → fed d l r [] ≡ r % 2 ^ d
+-- no bit, and no byte
+pub fedBits-nil : (d l r : ℕ) → fedBits d l r [] ≡ r % 2 ^ d
 unfolding fedBits
-fed-nil d l r = divided-nil d l (r % 2 ^ d)
+fedBits-nil d l r = divided-nil d l (r % 2 ^ d)
 
 pub ones-below : (d : ℕ) → ones d < 2 ^ d
 ones-below d = omega (arith, pow-pos d)
@@ -53,4 +57,4 @@ pub crc6Fed-append : (r : ℕ) (xs ys : List ℕ) → crc6Fed r (xs ++ ys) ≡ c
 crc6Fed-append r xs ys = fed-append 6 3 r xs ys (lit< tt)
 
 pub crc6End-nil : (r : ℕ) → crc6End (crc6Fed r []) ≡ crc6End r
-crc6End-nil r = ap crc6End (fed-nil 6 3 r) ∙ omega arith
+crc6End-nil r = ap crc6End (fedBits-nil 6 3 r) ∙ omega arith

@@ -7,7 +7,7 @@ use native.Mathlib.Nat.{zero-mul, div-eq-of-lt}
 use native.Mathlib.Omega.{arith}
 use borrow.Author.Tests.{lt-ltb, le-ltb}
 use lib.Bits.{bitAnd, bitXor, and-mask, xor-block, xor-lt}
-use Rattle.std.proofs.shelf.Bits.{shl-whole, one-shl, shl-below, shr-split, mod-below, pow-pos, pow-add}
+use Rattle.std.proofs.shelf.Bits.{shl-whole, one-shl, shl-below, shr-shr, shr-split, mod-below, pow-pos, pow-add}
 use Rattle.std.proofs.shelf.Tests.{cases-lt}
 use Rattle.frame.specs.Division.{reduced, stepped, divided, bits, message, Bits}
 
@@ -92,6 +92,17 @@ pub bits-none : (v k : ℕ) → k ≤ 0 → bits k v ≡ []
 unfolding bits
 bits-none v zero h = refl
 bits-none v (suc k) h = absurd (omega arith)
+
+-- the first m of m + j bits, and the rest
+pub bits-split : (m j t v : ℕ) → m + j ≡ t → bits t v ≡ bits m (v / 2 ^ j) ++ bits j v
+unfolding bits
+bits-split zero j t v e = let same : t ≡ j = omega arith in ap (λ x. bits x v) same
+bits-split (suc m) j zero v e = absurd (omega arith)
+bits-split (suc m) j (suc t) v e =
+    let less : m + j ≡ t = omega arith in
+    let place : j + m ≡ t = omega arith in
+    let head : v / 2 ^ t % 2 ≡ v / 2 ^ j / 2 ^ m % 2 = ap (λ x. x % 2) (ap (λ x. v / 2 ^ x) (sym place) ∙ sym (shr-shr v j m)) in
+    ap₂ (λ x xs. x ∷ xs) head (bits-split m j t v less)
 
 -- each bit is 0 or 1
 pub bits-are-bits : (n v : ℕ) → Bits (bits n v)

@@ -1,7 +1,7 @@
 // Checks (CRC). A check is told by its degree and its lower terms, and one text serves every check.
 // A register is a number whose bit of weight 2^k is the coefficient of x^k; bits go in most significant first.
 ghost use mathlib.Core.Path.{_≡_};
-ghost use Prim.Native.Nat.{ℕ, _-_, _^_, _<_, _≤_};
+ghost use Prim.Native.Nat.{ℕ, _*_, _-_, _^_, _<_, _≤_};
 ghost use Rattle.frame.specs.Checks.{mostDegree, ones, fedBits, fed, InParts, remainderOf, RemaindersDivide, RemaindersAlone, crc4Degree, crc4Lower, crc6Degree, crc6Lower};
 ghost use Rattle.frame.specs.Division.{stepped, bits};
 
@@ -28,6 +28,14 @@ pub trait Check {
     /// `LOWER`, tied to its meaning.
     fn lower_of() -> u64
         ensures { λ r. ⌜ r ≡ lower ⌝ };
+
+    /// The register with the last four bits of a number.
+    fn feed_nibble(register: u64, nibble: u64) -> u64
+        ensures value { λ r. ⌜ r ≡ fedBits degree lower register (bits 4 nibble) ⌝ }
+        ensures bound { λ r. ⌜ r < 2 ^ degree ⌝ }
+    {
+        feed_bits(Self::degree_of(), Self::lower_of(), register, nibble, 4)
+    }
 
     /// The register with one more byte.
     fn feed_byte(register: u64, byte: u8) -> u64
@@ -57,7 +65,7 @@ fn step(degree: u32, lower: u64, register: u64, bit: u64) -> u64
 }
 
 // The register with the last `count` bits of `value`.
-pub(crate) fn feed_bits(degree: u32, lower: u64, register: u64, value: u64, count: u32) -> u64
+fn feed_bits(degree: u32, lower: u64, register: u64, value: u64, count: u32) -> u64
     requires narrow { ⌜ degree < 64 ⌝ }
     requires below { ⌜ lower < 2 ^ degree ⌝ }
     requires few { ⌜ count ≤ 64 ⌝ }
@@ -76,6 +84,19 @@ pub fn start<C: Check>() -> u64
     ensures { λ r. ⌜ r ≡ ones (C·Check .degree) ⌝ }
 {
     (1 << C::degree_of()) - 1
+}
+
+// The register with the last `count` times four bits of a number.
+pub(crate) fn feed_nibbles<C: Check>(register: u64, value: u64, count: u32) -> u64
+    requires { ⌜ count ≤ 16 ⌝ }
+    ensures value { λ r. ⌜ r ≡ fedBits (C·Check .degree) (C·Check .lower) register (bits (4 * count) value) ⌝ }
+    ensures bound { λ r. ⌜ r < 2 ^ (C·Check .degree) ⌝ }
+{
+    let mut state = register & start::<C>();
+    for k in (0..count).rev() {
+        state = C::feed_nibble(state, value >> (4 * k));
+    }
+    state
 }
 
 /// The register with more bytes. Bytes fed in parts, one part after the other, come to the same as all of them at once.
@@ -124,7 +145,23 @@ pub impl Check for Crc4 as Crc4Check {
     fn lower_of() -> u64 {
         Self::LOWER
     }
+
+    fn feed_nibble(register: u64, nibble: u64) -> u64 {
+        crc4_by_table(register, nibble)
+    }
 }
+
+// CRC-4 with the last four bits of a number: they stand under the register's four, so that one look-up serves both.
+fn crc4_by_table(register: u64, nibble: u64) -> u64
+    ensures value { λ r. ⌜ r ≡ fedBits crc4Degree crc4Lower register (bits 4 nibble) ⌝ }
+    ensures bound { λ r. ⌜ r < 2 ^ crc4Degree ⌝ }
+{
+    let sum = (register ^ nibble) & 0xf;
+    u64::from(AFTER_NIBBLE[sum as usize])
+}
+
+// What a CRC-4 register of zeros is after each four bits.
+const AFTER_NIBBLE: [u8; 16] = [0, 3, 6, 5, 12, 15, 10, 9, 11, 8, 13, 14, 7, 4, 1, 2];
 
 /// x^6 + x + 1.
 pub struct Crc6;

@@ -2,10 +2,9 @@
 ghost use mathlib.Core.Path.{_≡_};
 ghost use Prim.Native.Nat.{_^_, _<_};
 ghost use Rattle.frame.specs.Checks.{crc4Degree, crc4Of};
-use crate::check::Check;
 use crate::check::Crc4;
 use crate::check::Crc4Check;
-use crate::check::feed_bits;
+use crate::check::feed_nibbles;
 use crate::check::start;
 
 /// The CRC-4 over the twelve lowest bits of a number.
@@ -13,8 +12,6 @@ pub fn of_twelve(bits: u16) -> u16
     ensures value { λ r. ⌜ r ≡ crc4Of bits ⌝ }
     ensures bound { λ r. ⌜ r < 2 ^ crc4Degree ⌝ }
 {
-    let degree = Crc4::degree_of();
-    let lower = Crc4::lower_of();
-    let crc = feed_bits(degree, lower, start::<Crc4>(), u64::from(bits), 12);
+    let crc = feed_nibbles::<Crc4>(start::<Crc4>(), u64::from(bits), 3);
     crc as u16
 }

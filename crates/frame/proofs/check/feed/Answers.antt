@@ -1,24 +1,18 @@
-use mathlib.Core.Path.{_≡_, sym, ap, _∙_}
+use mathlib.Core.Path.{_≡_, sym, _∙_}
 use mathlib.Core.List.{_++_}
-use Prim.Native.Nat.{_+_, _^_}
+use Prim.Native.Nat.{_+_}
 use native.Mathlib.Nat.{mod-eq-of-lt}
-use lib.Bits.{bitAnd, and-mask}
 use lib.ListN.{drop, getD}
-use Rattle.std.proofs.shelf.Bits.{mod-below, pow-pos}
 use Rattle.std.proofs.shelf.Lists.{at-drop-more, at-drop-all}
 use Rattle.frame.specs.Checks.{fedBits, fed}
 use Rattle.frame.specs.Division.{bits, message}
-use Rattle.frame.proofs.Feeding.{fed-cut, fedBits-append, fed-nil, in-parts}
+use Rattle.frame.proofs.Feeding.{masked-in, fedBits-append, fedBits-nil, in-parts}
 use Rattle.frame.proofs.Steps.{bits-are-bits}
 use Rattle.frame.proofs.check.feed.Needs as need
 
 pub loop-byte-holds : need.loop-byte-holds
 loop-byte-holds g c =
-    let d = g .C·Check .degree in
-    let l = g .C·Check .lower in
-    let r = c .args .register in
-    let is = ap (bitAnd r) (c .start .ensures) ∙ and-mask r d in
-    (ap (λ x. fed d l x (c .args .bytes .now)) is ∙ fed-cut d l r (c .args .bytes .now), rw is (mod-below r (2 ^ d) (pow-pos d)))
+    masked-in (g .C·Check .degree) (g .C·Check .lower) (c .args .register) (c .start .result) (message (c .args .bytes .now)) (c .start .ensures)
 
 pub loop-byte-again : need.loop-byte-again
 loop-byte-again g c =
@@ -42,6 +36,6 @@ returns g c =
     let r = c .loop-byte .state in
     let within = c .loop-byte .inv .1 in
     let all : fed d l r (drop (c .loop-byte .byte-index) xs) ≡ r =
-    at-drop-all (fed d l r) xs (c .loop-byte .byte-index) (c .loop-byte-test .left) ∙ fed-nil d l r ∙ mod-eq-of-lt within in
+    at-drop-all (fed d l r) xs (c .loop-byte .byte-index) (c .loop-byte-test .left) ∙ fedBits-nil d l r ∙ mod-eq-of-lt within in
     let is : r ≡ fed d l (c .args .register) xs = sym all ∙ c .loop-byte .inv .0 in
     record { value = is; bound = within; in-parts = λ first rest e. in-parts d l (c .args .register) xs (g .C·Check·met .below) first rest e ∙ sym is }
