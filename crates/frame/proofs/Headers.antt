@@ -26,7 +26,7 @@ use Rattle.frame.proofs.Tables.{same-below}
 pub sf-below : (f : ℕ) → sfOf f < 2
 sf-below f = grind (arith, tells)
 
-pub in6-listed : (k : ℕ) → getD (0 ∷ 1 ∷ 0 ∷ 1 ∷ 1 ∷ 1 ∷ []) k 0 < 2
+in6-listed : (k : ℕ) → getD (0 ∷ 1 ∷ 0 ∷ 1 ∷ 1 ∷ 1 ∷ []) k 0 < 2
 in6-listed zero = lit< tt
 in6-listed (suc zero) = lit< tt
 in6-listed (suc (suc zero)) = lit< tt
@@ -41,71 +41,56 @@ in6-below f = in6-listed (frameOf f - 1)
 pub crc4-below : (v : ℕ) → crc4Of v < 16
 crc4-below v = fedBits-below 4 3 15 (bits 12 v) (lit< tt) (bits-are-bits 12 v)
 
--- where the parts of a header x stand, in plain numbers
-module _ (s c i d k x : ℕ) (hs : s < 2) (hc : c < 2) (hi : i < 2) (hd : d < 256) (hk : k < 16)
-    (is : x ≡ ((s * 2 ^ 7 + c * 2 ^ 6 + i * 2 ^ 5 + d / 2 ^ 3) * 2 ^ 4 + d % 2 ^ 3) * 2 ^ 4 + k) where
-  at-crc4 : x % 2 ^ 4 ≡ k
-  at-crc4 = omega arith
+-- where the parts of a header x stand: SF, C6, In6, Data and CRC-4 as numbers s, c, i, d and k
+record Stands (s c i d k x : ℕ) : Type 0 where
+  crc4 : x % 2 ^ 4 ≡ k
+  twelve : x / 2 ^ 4 ≡ (s * 2 ^ 7 + c * 2 ^ 6 + i * 2 ^ 5 + d / 2 ^ 3) * 2 ^ 4 + d % 2 ^ 3
+  first-sf : x / 2 ^ 15 ≡ s
+  second-sf : x / 2 ^ 7 % 2 ≡ 0
+  c6 : x / 2 ^ 14 % 2 ≡ c
+  in6 : x / 2 ^ 13 % 2 ≡ i
+  byte : x / 2 ^ 8 % 2 ^ 5 * 2 ^ 3 + x / 2 ^ 4 % 2 ^ 3 ≡ d
 
-  at-twelve : x / 2 ^ 4 ≡ (s * 2 ^ 7 + c * 2 ^ 6 + i * 2 ^ 5 + d / 2 ^ 3) * 2 ^ 4 + d % 2 ^ 3
-  at-twelve = omega arith
+stands : (s c i d k x : ℕ) → s < 2 → c < 2 → i < 2 → d < 256 → k < 16
+    → x ≡ ((s * 2 ^ 7 + c * 2 ^ 6 + i * 2 ^ 5 + d / 2 ^ 3) * 2 ^ 4 + d % 2 ^ 3) * 2 ^ 4 + k → Stands s c i d k x
+stands s c i d k x hs hc hi hd hk is =
+    record {
+      crc4 = omega arith;
+      twelve = omega arith;
+      first-sf = omega arith;
+      second-sf = omega arith;
+      c6 = omega arith;
+      in6 = omega arith;
+      byte =
+          let high : x / 2 ^ 8 % 2 ^ 5 ≡ d / 2 ^ 3 = omega arith in
+          let low : x / 2 ^ 4 % 2 ^ 3 ≡ d % 2 ^ 3 = omega arith in
+          omega arith;
+    }
 
-  at-sf : x / 2 ^ 15 ≡ s
-  at-sf = omega arith
+-- in a header that was written
+written-stands : (f c d : ℕ) → d < 256 → Stands (sfOf f) (bitOf c) (in6Of f) d (crc4Of (twelveOf f c d)) (headerOf f c d)
+unfolding headerOf
+written-stands f c d h =
+    let one : bitOf c < 2 = omega arith in
+    stands (sfOf f) (bitOf c) (in6Of f) d (crc4Of (twelveOf f c d)) (headerOf f c d) (sf-below f) one (in6-below f) h (crc4-below (twelveOf f c d)) refl
 
-  at-second-sf : x / 2 ^ 7 % 2 ≡ 0
-  at-second-sf = omega arith
-
-  at-c6 : x / 2 ^ 14 % 2 ≡ c
-  at-c6 = omega arith
-
-  at-in6 : x / 2 ^ 13 % 2 ≡ i
-  at-in6 = omega arith
-
-  at-data : x / 2 ^ 8 % 2 ^ 5 * 2 ^ 3 + x / 2 ^ 4 % 2 ^ 3 ≡ d
-  at-data =
-      let high : x / 2 ^ 8 % 2 ^ 5 ≡ d / 2 ^ 3 = omega arith in
-      let low : x / 2 ^ 4 % 2 ^ 3 ≡ d % 2 ^ 3 = omega arith in
-      omega arith
+crc4-right : (f c d : ℕ) → d < 256 → headerOf f c d % 2 ^ 4 ≡ crc4Of (headerOf f c d / 2 ^ 4)
+crc4-right f c d h = let x = written-stands f c d h in x .crc4 ∙ ap crc4Of (sym (x .twelve))
 
 -- what is read of a header that is right
-read-right : (f x c i d : ℕ) → x % 2 ^ 4 ≡ crc4Of (x / 2 ^ 4) → x / 2 ^ 15 ≡ sfOf f → x / 2 ^ 7 % 2 ≡ 0
-    → x / 2 ^ 14 % 2 ≡ c → x / 2 ^ 13 % 2 ≡ i → x / 2 ^ 8 % 2 ^ 5 * 2 ^ 3 + x / 2 ^ 4 % 2 ^ 3 ≡ d
-    → readOf f x ≡ Ok (record { c6 = c; in6 = i; «data» = d })
+read-right : (f x c i d : ℕ) → x % 2 ^ 4 ≡ crc4Of (x / 2 ^ 4) → Stands (sfOf f) c i d (x % 2 ^ 4) x → readOf f x ≡ Ok (record { c6 = c; in6 = i; «data» = d })
 unfolding readOf
-read-right f x c i d h1 h2 h3 h4 h5 h6 =
-    rw (eq-eqb (x % 2 ^ 4) (crc4Of (x / 2 ^ 4)) h1, eq-eqb (x / 2 ^ 15) (sfOf f) h2, eq-eqb (x / 2 ^ 7 % 2) 0 h3) (cc)
-
--- the CRC-4 of a header that was written
-crc4-right : (f c d : ℕ) → d < 256 → headerOf f c d % 2 ^ 4 ≡ crc4Of (headerOf f c d / 2 ^ 4)
-unfolding headerOf
-crc4-right f c d h =
-    let s = sf-below f in
-    let i = in6-below f in
-    let one : bitOf c < 2 = omega arith in
-    let t : ℕ = twelveOf f c d in
-    let k = crc4-below t in
-    at-crc4 (sfOf f) (bitOf c) (in6Of f) d (crc4Of t) (headerOf f c d) s one i h k refl
-    ∙ ap crc4Of (sym (at-twelve (sfOf f) (bitOf c) (in6Of f) d (crc4Of t) (headerOf f c d) s one i h k refl))
+read-right f x c i d right at =
+    let c6 = at .c6 in
+    let in6 = at .in6 in
+    let byte = at .byte in
+    rw (eq-eqb (x % 2 ^ 4) (crc4Of (x / 2 ^ 4)) right, eq-eqb (x / 2 ^ 15) (sfOf f) (at .first-sf), eq-eqb (x / 2 ^ 7 % 2) 0 (at .second-sf)) (cc)
 
 -- read after write gives back the C6 bit, the frame's In6 bit and Data
 pub read-back : (f c d : ℕ) → d < 256 → readOf f (headerOf f c d) ≡ Ok (written f c d)
-unfolding headerOf
 read-back f c d h =
-    let s = sf-below f in
-    let i = in6-below f in
-    let one : bitOf c < 2 = omega arith in
-    let t : ℕ = twelveOf f c d in
-    let k = crc4-below t in
-    let x : ℕ = headerOf f c d in
-    let is : x ≡ t * 2 ^ 4 + crc4Of t = refl in
-    read-right f x (bitOf c) (in6Of f) d
-    (crc4-right f c d h)
-    (at-sf (sfOf f) (bitOf c) (in6Of f) d (crc4Of t) x s one i h k is)
-    (at-second-sf (sfOf f) (bitOf c) (in6Of f) d (crc4Of t) x s one i h k is)
-    (at-c6 (sfOf f) (bitOf c) (in6Of f) d (crc4Of t) x s one i h k is)
-    (at-in6 (sfOf f) (bitOf c) (in6Of f) d (crc4Of t) x s one i h k is)
-    (at-data (sfOf f) (bitOf c) (in6Of f) d (crc4Of t) x s one i h k is)
+    let x = written-stands f c d h in
+    read-right f (headerOf f c d) (bitOf c) (in6Of f) d (crc4-right f c d h) (rw (x .crc4) x)
 
 -- a part of what was read
 part : (Fields → ℕ) → Result Fields Refused → ℕ

@@ -1,4 +1,3 @@
-pub mod Alone
 pub mod Feeding
 pub mod Headers
 pub mod Linear
@@ -6,3 +5,4 @@ pub mod Quotients
 pub mod Steps
 pub mod Sums
 pub mod Tables
+pub mod Unique

@@ -39,9 +39,9 @@ dividend d bs = bitXor (polynomial 0 bs * 2 ^ d) (ones d * 2 ^ length bs)
 abbrev pub RemaindersDivide : Type 0
 RemaindersDivide = (d l : ℕ) (bytes : List ℕ) → l < 2 ^ d → Remainder d l (dividend d (message bytes)) (remainderOf d l bytes)
 
--- and a division leaves no other
-abbrev pub RemaindersAlone : Type 0
-RemaindersAlone = (d l a r s : ℕ) → l < 2 ^ d → Remainder d l a r → Remainder d l a s → r ≡ s
+-- and a division leaves one remainder, and no other
+abbrev pub RemaindersUnique : Type 0
+RemaindersUnique = (d l a r s : ℕ) → l < 2 ^ d → Remainder d l a r → Remainder d l a s → r ≡ s
 
 -- CRC-6 divides by x^6 + x + 1 and is complemented at the end; over no byte it is 0
 abbrev pub crc6Degree : ℕ

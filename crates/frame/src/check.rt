@@ -2,7 +2,7 @@
 // A register is a number whose bit of weight 2^k is the coefficient of x^k; bits go in most significant first.
 ghost use mathlib.Core.Path.{_≡_};
 ghost use Prim.Native.Nat.{ℕ, _*_, _-_, _^_, _<_, _≤_};
-ghost use Rattle.frame.specs.Checks.{mostDegree, ones, fedBits, fed, InParts, remainderOf, RemaindersDivide, RemaindersAlone, crc4Degree, crc4Lower, crc6Degree, crc6Lower};
+ghost use Rattle.frame.specs.Checks.{mostDegree, ones, fedBits, fed, InParts, remainderOf, RemaindersDivide, RemaindersUnique, crc4Degree, crc4Lower, crc6Degree, crc6Lower};
 ghost use Rattle.frame.specs.Division.{stepped, bits};
 
 /// A check by its divisor, x^DEGREE + LOWER.
@@ -123,7 +123,7 @@ pub fn remainder<C: Check>(bytes: &[u8]) -> u64
 /// The remainder of a check is what a division of polynomials leaves, which is one number and no other.
 pub fn remainders_divide()
     ensures divides { λ _. ⌜ RemaindersDivide ⌝ }
-    ensures alone { λ _. ⌜ RemaindersAlone ⌝ }
+    ensures unique { λ _. ⌜ RemaindersUnique ⌝ }
 {}
 
 /// x^4 + x + 1.

@@ -7,7 +7,7 @@ use native.Mathlib.Omega.{arith}
 use lib.Bits.{bitXor, xor-comm, xor-lt, xor-self, xor-zero-l, xor-zero-r}
 use lib.ListN.{length}
 use Rattle.std.proofs.shelf.Bits.{mul-le}
-use Rattle.frame.specs.Checks.{RemaindersAlone}
+use Rattle.frame.specs.Checks.{RemaindersUnique}
 use Rattle.frame.specs.Division.{Bits, product}
 use Rattle.frame.proofs.Linear.{high-same, added, Level}
 use Rattle.frame.proofs.Steps.{below-from-shr, above-from-shr, pow-next}
@@ -86,8 +86,8 @@ level-from-length [] (y ∷ ys) e = absurd (omega arith)
 level-from-length (x ∷ xs) [] e = absurd (omega arith)
 level-from-length (x ∷ xs) (y ∷ ys) e = level-from-length xs ys (omega arith)
 
-pub alone : RemaindersAlone
-alone d l a r s hl hr hs =
+pub unique : RemaindersUnique
+unique d l a r s hl hr hs =
     let g = 2 ^ d + l in
     let xs = padded (length (hs .1 .0)) (hr .1 .0) in
     let ys = padded (length (hr .1 .0)) (hs .1 .0) in
