@@ -11,6 +11,7 @@ use fault::FaultDisplay;
 use std::io;
 use std::io::BufRead;
 use std::io::BufReader;
+use std::io::ErrorKind;
 
 // Prints what is wrong with a line.
 fn complain(rt: &LibcRuntime, fault: Fault) -> io::Result<()> {
@@ -36,15 +37,26 @@ fn respond(rt: &LibcRuntime, line: &[u8]) -> io::Result<()> {
     }
 }
 
+// Reads lines to the end of the input and answers each. A line that finds no memory is let go part by part, and
+// answered by that once its end is read.
 fn main(rt: LibcRuntime) -> io::Result<()> {
     let mut input = BufReader::new(rt.stdin());
     let mut line = Vec::new(rt.alloc());
+    let mut is_cut = false;
     for _ in 0..u64::MAX {
-        line.clear();
-        if input.read_until(b'\n', &mut line)? == 0 {
-            break;
+        match input.read_until(b'\n', &mut line) {
+            Ok(0) if !is_cut => break,
+            Ok(_) if is_cut => complain(&rt, Fault::NoMemory)?,
+            Ok(_) => respond(&rt, line.as_slice())?,
+            Err(e) if e.kind() == ErrorKind::OutOfMemory && !line.is_empty() => {
+                line.clear();
+                is_cut = true;
+                continue;
+            }
+            Err(e) => return Err(e),
         }
-        respond(&rt, line.as_slice())?;
+        line.clear();
+        is_cut = false;
     }
     Ok(())
 }
