@@ -1,4 +1,6 @@
 // What a cable means, and the interface that each kind of cable keeps. Everything above is proved once, against the meaning.
+#![tactic(auto)]
+
 ghost use Rattle.std.specs.Prelude.{◌≡◌};
 ghost use Rattle.frame.specs.Refusals.{judged};
 ghost use Rattle.cable.specs.Calls.{put_said, put_after, tick_said, tick_after, take_said, take_after, since_said, free_of, delay_of};

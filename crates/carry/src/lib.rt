@@ -1,4 +1,6 @@
 // Bytes carried through cables and summed up at the far end, for the benchmark to call from Rust.
+#![tactic(auto)]
+
 ghost use Rattle.std.specs.Prelude.{◌≡◌, true, IfOk};
 ghost use Rattle.cable.specs.Bounds.{most_pairs};
 ghost use Rattle.reel.specs.Rows.{row_model};

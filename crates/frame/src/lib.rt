@@ -1,4 +1,6 @@
 // The checks of the link, its frame headers and the codes of its events.
+#![tactic(auto)]
+
 pub mod check;
 pub mod crc4;
 pub mod crc6;

@@ -1,5 +1,7 @@
 // Cables whose bytes lie in a row of places: the reel, which uses a place again once its byte is taken, and the tape, which
 // uses each place once.
+#![tactic(auto)]
+
 pub mod place;
 pub mod reuse;
 pub mod row;

@@ -1,5 +1,7 @@
 // A cable that is cut through: it has pairs and ticks, and no place for a byte. The smallest cable there is, as an example of
 // how one is written.
+#![tactic(auto)]
+
 ghost use Rattle.std.specs.Prelude.{◌≡◌, ◌≤◌};
 ghost use Rattle.cable.specs.Bounds.{most_pairs, most_ticks, pairs_counted, ticks_counted};
 ghost use Rattle.severed.specs.Severed.{without_places};

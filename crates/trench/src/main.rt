@@ -1,4 +1,6 @@
 // Reads commands from standard input, one a line, and prints what each answers.
+#![tactic(auto)]
+
 mod answer;
 mod command;
 mod fault;

@@ -1,4 +1,6 @@
 // The words of a command as numbers and bytes.
+#![tactic(auto)]
+
 ghost use Rattle.std.specs.Prelude.{◌≡◌, take, drop};
 ghost use Rattle.words.specs.Words.{word, decimal_of, number_of, digit_of, byte_of};
 

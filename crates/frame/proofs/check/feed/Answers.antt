@@ -22,7 +22,7 @@ loop-byte-preserved g c =
     let next : fed d l r (drop i xs) ≡ fed_bits d l r (bits 8 x ++ message (drop (i + 1) xs)) =
     at_drop_more (fed d l r) xs i 0 c.loop-byte-test.true in
     let parts = fed_bits_append d l r (bits 8 x) (message (drop (i + 1) xs)) below (bits_are_bits 8 x) in
-    (cc, c.feed-byte-state.ensures.bound)
+    (cc, c.feed_byte-state.ensures.bound)
 
 pub returns : goal.returns
 returns g c =

@@ -19,7 +19,7 @@ loop-k-preserved g c =
     let nibble = v / 2 ^ left in
     let next = ap (fed_bits d l r) (bits_split 4 left (4 * c.loop-k.k) v (omega arith)) in
     let parts = fed_bits_append d l r (bits 4 nibble) (bits left v) g.met.C.Check.below (bits_are_bits 4 nibble) in
-    (cc, c.feed-nibble-state.ensures.bound)
+    (cc, c.feed_nibble-state.ensures.bound)
 
 pub returns : goal.returns
 returns g c =

@@ -7,7 +7,7 @@ use Rattle.frame.proofs.header.write.Goals as goal
 
 value : (c : goal.After-joined) → c.joined.result ≡ header_of c.args.frame c.args.c6 c.args.data
 unfolding header_of
-value c = let check = ap crc4_of c.twelve-of-twelve.ensures.value in omega arith
+value c = let check = ap crc4_of c.twelve_of-twelve.ensures.value in omega arith
 
 pub returns : goal.returns
 returns c =
