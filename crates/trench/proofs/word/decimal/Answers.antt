@@ -2,7 +2,7 @@ use Rattle.std.proofs.Common.{◌≡◌, ℕ, List, [], ◌∷◌, length, get_o
 use Rattle.std.proofs.lemmas.Bool.Decides.{nat_tests}
 use Rattle.trench.proofs.Numbers.{no_number, plain_number}
 use Rattle.trench.proofs.word.decimal.Goals as goal
-use Rattle.trench.proofs.word.decimal.Goals.{else-not-is-empty-via-then-not-is-empty+else-bytes-eq43, else-not-is-empty-via-else-not-is-empty}
+use Rattle.trench.proofs.word.decimal.Goals.{else-not-is_empty-via-then-not-is_empty+else-bytes-eq43, else-not-is_empty-via-else-not-is_empty}
 
 empty_unsigned : (xs : List ℕ) → length xs ≡ 0 → get_or xs 0 0 ≡ 43 → ⊥
 empty_unsigned [] e h = omega arith
@@ -10,17 +10,17 @@ empty_unsigned (x ∷ xs) e h = omega arith
 
 pub returns-then-bytes-eq43 : goal.returns-then-bytes-eq43
 returns-then-bytes-eq43 c =
-    sym (no_number c.args.word.now (ap (λ xs. get_or xs 0 0) (sym c.as-bytes-bytes.ensures.value) ∙ c.if-bytes-eq43.true))
+    sym (no_number c.args.word.now (ap (λ xs. get_or xs 0 0) (sym c.as_bytes-bytes.ensures.value) ∙ c.if-bytes-eq43.true))
 
 pub returns : goal.returns
 returns c =
     let word = c.args.word.now in
-    let same : c.as-bytes-bytes.result.now ≡ word = c.as-bytes-bytes.ensures.value in
+    let same : c.as_bytes-bytes.result.now ≡ word = c.as_bytes-bytes.ensures.value in
     let unsigned : get_or word 0 0 ≡ 43 → ⊥ =
-    elim c.else-not-is-empty.branch [
-      | else-not-is-empty-via-then-not-is-empty+else-bytes-eq43 w ↦ λ e. w.if-bytes-eq43.false (ap (λ xs. get_or xs 0 0) same ∙ e)
-      | else-not-is-empty-via-else-not-is-empty w ↦
-          let none : length c.as-bytes-bytes.result.now ≡ 0 = grind (arith, nat_tests) in
+    elim c.else-not-is_empty.branch [
+      | else-not-is_empty-via-then-not-is_empty+else-bytes-eq43 w ↦ λ e. w.if-bytes-eq43.false (ap (λ xs. get_or xs 0 0) same ∙ e)
+      | else-not-is_empty-via-else-not-is_empty w ↦
+          let none : length c.as_bytes-bytes.result.now ≡ 0 = grind (arith, nat_tests) in
           empty_unsigned word (ap length (sym same) ∙ none)
     ] in
     c.ok.ensures.value ∙ plain_number word c.parse.result c.parse.ensures.value.0 unsigned

@@ -13,8 +13,8 @@ returns-then-pair-split g c =
     let value : First p ≡ side_of (pairs_of a) p = search rules in
     record { value = value; shows = side_shows a b (g.met.K.Cable.formed c.args.self.now.first).few p (First p) value }
 
-pub returns-then-pair-lt-MOST-PAIRS : goal.returns-then-pair-lt-MOST-PAIRS
-returns-then-pair-lt-MOST-PAIRS g c =
+pub returns-then-pair-lt-MOST_PAIRS : goal.returns-then-pair-lt-MOST_PAIRS
+returns-then-pair-lt-MOST_PAIRS g c =
     let a = g.K.Cable.model c.args.self.now.first in
     let b = g.L.Cable.model c.args.self.now.second in
     let p = c.args.pair in
@@ -22,8 +22,8 @@ returns-then-pair-lt-MOST-PAIRS g c =
     let value : Second at ≡ side_of (pairs_of a) p = search rules in
     record { value = value; shows = side_shows a b (g.met.K.Cable.formed c.args.self.now.first).few p (Second at) value }
 
-pub returns-else-pair-lt-MOST-PAIRS : goal.returns-else-pair-lt-MOST-PAIRS
-returns-else-pair-lt-MOST-PAIRS g c =
+pub returns-else-pair-lt-MOST_PAIRS : goal.returns-else-pair-lt-MOST_PAIRS
+returns-else-pair-lt-MOST_PAIRS g c =
     let a = g.K.Cable.model c.args.self.now.first in
     let b = g.L.Cable.model c.args.self.now.second in
     let p = c.args.pair in

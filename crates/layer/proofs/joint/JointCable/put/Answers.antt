@@ -10,7 +10,7 @@ returns-in-First g c =
     let on = passes_on g.K.Cable.model g.L.Cable.model g.met.K.Cable.formed c.args.self.now c.args.pair
     c.in-First.ensures.value in
     record {
-      said = told_put on c.put.result c.told-of.ensures c.put.ensures.said;
+      said = told_put on c.put.result c.told_of.ensures c.put.ensures.said;
       after = passed_put on c.args.byte c.put.ensures.after;
     }
 
@@ -19,7 +19,7 @@ returns-in-Second g c =
     let on = passes_on g.K.Cable.model g.L.Cable.model g.met.K.Cable.formed c.args.self.now c.args.pair
     c.in-Second.ensures.value in
     record {
-      said = told_put on c.put-in-Second.result c.told-of-in-Second.ensures c.put-in-Second.ensures.said;
+      said = told_put on c.put-in-Second.result c.told_of-in-Second.ensures c.put-in-Second.ensures.said;
       after = passed_put on c.args.byte c.put-in-Second.ensures.after;
     }
 

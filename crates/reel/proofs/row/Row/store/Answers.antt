@@ -6,20 +6,20 @@ use Rattle.reel.proofs.Putting.{put_sound, put_model}
 use Rattle.reel.specs.Shows.{sound, row_line}
 use Rattle.reel.proofs.row.Row.store.Goals as goal
 
-pub invariant-of-self : goal.invariant-of-self
-invariant-of-self g c =
+pub invariant_of-self : goal.invariant_of-self
+invariant_of-self g c =
     let r = parts_of g.P.Reuse.reused c.args.self.now in
     let ringed : r.pairs ≤ length r.rings = search rules in
     let n =
-    put_sound r (sound g.P.Reuse.reused c.args.self.now) ringed c.args.pair c.spot-of-spot.result c.args.byte
-    c.spot-of-spot.ensures.value c.requires.there c.requires.room in
-    (n.some, (n.few, (search rules, (n.timed, (n.short, (n.turned, (n.past, (n.ordered, tt))))))))
+    put_sound r (sound g.P.Reuse.reused c.args.self.now) ringed c.args.pair c.spot_of-spot.result c.args.byte
+    c.spot_of-spot.ensures.value c.requires.there c.requires.room in
+    record { some = n.some; few = n.few; shared = search rules; timed = n.timed; short = n.short; turned = n.turned; past = n.past; ordered = n.ordered }
 
 pub returns : goal.returns
 returns g c =
     let r = parts_of g.P.Reuse.reused c.args.self.now in
     let p = c.args.pair in
     let ringed : r.pairs ≤ length r.rings = search rules in
-    put_model r (sound g.P.Reuse.reused c.args.self.now) ringed p c.spot-of-spot.result c.args.byte
-    c.spot-of-spot.ensures.value c.requires.there c.requires.room
+    put_model r (sound g.P.Reuse.reused c.args.self.now) ringed p c.spot_of-spot.result c.args.byte
+    c.spot_of-spot.ensures.value c.requires.there c.requires.room
     ∙ ap (λ (x : Line). with_line (model_of r) p (line_after_put x c.args.byte)) (sym (row_line r p c.requires.there))
