@@ -1,4 +1,4 @@
-//! Links the static libraries that `rt staticlib` wrote, and the kit's C library.
+//! Links the static libraries that `tools/static-library.sh` wrote, and the kit's C library.
 fn main() {
     let here = std::env::var("CARGO_MANIFEST_DIR").expect("cargo sets it");
     let kit = std::env::var("RATTLE_LIB").expect("run.sh sets it");
@@ -9,5 +9,5 @@ fn main() {
         println!("cargo:rustc-link-lib=static={name}");
         println!("cargo:rerun-if-changed={here}/../target/staticlib/lib{name}.a");
     }
-    println!("cargo:rustc-link-lib=static=rattle_c");
+    println!("cargo:rustc-link-lib=static=libc_c");
 }

@@ -1,4 +1,4 @@
-/* Frame headers and the CRC-6 of the link, for firmware in C. Link with libframe.a, which `rt staticlib frame` builds. */
+/* Frame headers and the CRC-6 of the link, for firmware in C. Link with libframe.a, which `examples/firmware/build.sh` builds. */
 #ifndef FRAME_H
 #define FRAME_H
 

@@ -1,5 +1,5 @@
 -- Division of polynomials over bits. A number stands for a polynomial: its bit of weight 2^k is the coefficient of x^k,
--- so that bitXor both adds and subtracts. A divisor is x^d + l, where l has a degree below d. Assumes nothing.
+-- so that bit_xor both adds and subtracts. A divisor is x^d + l, where l has a degree below d. Assumes nothing.
 use Rattle.std.specs.Prelude.{◌≡◌, ℕ, zero, suc, ◌+◌, ◌*◌, ◌/◌, ◌%◌, ◌^◌, ◌<◌, cond, List, [], ◌∷◌, ◌++◌, bit_xor, nat_lt}
 
 -- t, of a degree of at most d, less the divisor where t has the term x^d

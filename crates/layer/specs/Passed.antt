@@ -1,6 +1,6 @@
 -- A cable that passes the calls on one of its pairs on to a pair of another cable says and leaves what that pair does.
 -- Assumes nothing.
-use Rattle.std.specs.Prelude.{◌≡◌, ℕ, ◌<◌, ◌≤◌, Bool, true, false, cond, ltb, Ok, Err, Option, Result, nat_lt, refl}
+use Rattle.std.specs.Prelude.{◌≡◌, ℕ, ◌<◌, ◌≤◌, Bool, true, false, cond, Ok, Err, Option, Result, nat_lt, refl}
 use Rattle.std.proofs.Common.{sym, ap, ◌∙◌, ⊎_elim}
 use Rattle.std.proofs.lemmas.List.{set-get_or}
 use Rattle.std.proofs.lemmas.Bool.{cases_lt, cases_Bool, cond-true, cond-false, ltb-true, ltb-false, lt-ltb, le-ltb}
@@ -16,7 +16,7 @@ delayed f l = record { delay = f l.delay; places = l.places; used = l.used; reus
 
 -- F makes of cable m one whose pair p is m's pair q, delayed by f
 pub record Passes (F : Model → Model) (f : ℕ → ℕ) (m : Model) (p q : ℕ) : Type 0 where
-  pub there : ltb p (pairs_of (F m)) ≡ nat_lt q (pairs_of m)
+  pub there : nat_lt p (pairs_of (F m)) ≡ nat_lt q (pairs_of m)
   pub moves : (l : Line) → q < pairs_of m → F (with_line m q l) ≡ with_line (F m) p (delayed f l)
 
 -- what a put on pair p says, where the pair is there or not, and has room or not
