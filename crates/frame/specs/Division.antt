@@ -1,6 +1,7 @@
 -- Division of polynomials over bits. A number stands for a polynomial: its bit of weight 2^k is the coefficient of x^k,
 -- so that bit_xor both adds and subtracts. A divisor is x^d + l, where l has a degree below d. Assumes nothing.
-use Rattle.std.specs.Prelude.{◌≡◌, ℕ, zero, suc, ◌+◌, ◌*◌, ◌/◌, ◌%◌, ◌^◌, ◌<◌, cond, List, [], ◌∷◌, ◌++◌, bit_xor, nat_lt}
+use Rattle.std.specs.Prelude.{◌≡◌, ℕ, zero, suc, ◌+◌, ◌*◌, ◌/◌, ◌%◌, ◌^◌, ◌<◌, cond, List, [], ◌∷◌, ◌++◌, map, bit_xor, nat_lt}
+use Rattle.std.specs.List.{range_with_len}
 
 -- t, of a degree of at most d, less the divisor where t has the term x^d
 unfoldable pub reduced : ℕ → ℕ → ℕ → ℕ
@@ -19,6 +20,10 @@ divided d l r (b ∷ bs) = divided d l (stepped d l r b) bs
 unfoldable pub bits : ℕ → ℕ → List ℕ
 bits zero v = []
 bits (suc n) v = v / 2 ^ n % 2 ∷ bits n v
+
+-- what a remainder of 0 becomes by each row of n bits, in the order of the numbers that these are
+abbrev pub after_each : ℕ → ℕ → ℕ → List ℕ
+after_each d l n = map (λ v. divided d l 0 (bits n v)) (range_with_len 0 (2 ^ n))
 
 -- the bits of a row of bytes
 abbrev pub message : List ℕ → List ℕ

@@ -2,95 +2,114 @@
 // A register is a number whose bit of weight 2^k is the coefficient of x^k; bits go in most significant first.
 ghost use Rattle.std.specs.Prelude.{◌≡◌, ℕ, ◌-◌, ◌*◌, ◌^◌, ◌<◌, ◌≤◌};
 ghost use Rattle.frame.specs.Checks.{most_degree, ones, fed_bits, fed, InParts, remainder_of, RemaindersDivide, RemaindersUnique, crc4_degree, crc4_lower, crc6_degree, crc6_lower};
-ghost use Rattle.frame.specs.Division.{stepped, bits};
+ghost use Rattle.frame.specs.Division.{stepped, bits, after_each};
 ghost use Rattle.std.proofs.Common.{rules};
 
 /// A check by its divisor, x^DEGREE + LOWER.
 pub trait Check {
-    ghost degree: { ℕ };
+    ghost DEGREE: { ℕ };
 
-    ghost lower: { ℕ };
+    ghost LOWER: { ℕ };
 
     const DEGREE: u32;
 
     const LOWER: u64;
 
-    /// `DEGREE`, tied to its meaning.
-    fn degree_of() -> u32
-        ensures { result ≡ degree };
-
-    /// `LOWER`, tied to its meaning.
-    fn lower_of() -> u64
-        ensures { result ≡ lower };
-
     /// The register with the last four bits of a number.
     fn feed_nibble(register: u64, nibble: u64) -> u64
-        ensures value { result ≡ fed_bits degree lower register (bits 4 nibble) }
-        ensures bound { result < 2 ^ degree }
+        ensures value { result ≡ fed_bits DEGREE LOWER register (bits 4 nibble) }
+        ensures bound { result < 2 ^ DEGREE }
     {
-        feed_bits(Self::degree_of(), Self::lower_of(), register, nibble, 4)
+        Divisor {
+            degree: Self::DEGREE,
+            lower: Self::LOWER,
+        }
+        .feed(register, nibble, 4)
     }
 
     /// The register with one more byte.
     fn feed_byte(register: u64, byte: u8) -> u64
-        ensures value { result ≡ fed_bits degree lower register (bits 8 byte) }
-        ensures bound { result < 2 ^ degree }
+        ensures value { result ≡ fed_bits DEGREE LOWER register (bits 8 byte) }
+        ensures bound { result < 2 ^ DEGREE }
     {
-        let byte = u64::from(byte);
-        feed_bits(Self::degree_of(), Self::lower_of(), register, byte, 8)
+        Divisor {
+            degree: Self::DEGREE,
+            lower: Self::LOWER,
+        }
+        .feed(register, u64::from(byte), 8)
     }
 
-    ghost least: { 1 ≤ degree };
+    ghost least: { 1 ≤ DEGREE };
 
-    ghost most: { degree ≤ most_degree };
+    ghost most: { DEGREE ≤ most_degree };
 
-    ghost below: { lower < 2 ^ degree };
+    ghost below: { LOWER < 2 ^ DEGREE };
 }
 
-// The register with one more bit.
-fn step(degree: u32, lower: u64, register: u64, bit: u64) -> u64
-    requires narrow { degree < 64 }
-    requires below { lower < 2 ^ degree }
-    requires within { register < 2 ^ degree }
-    requires single { bit < 2 }
-    ensures value { result ≡ stepped degree lower register bit }
-    ensures bound { result < 2 ^ degree }
-{
-    let next = (register << 1) ^ (bit << degree);
-    if next >> degree == 0 {
-        next
-    } else {
-        next ^ ((1 << degree) + lower)
-    }
+// The divisor of a check: x^degree + lower.
+#[derive(Clone, Copy)]
+struct Divisor {
+    degree: u32,
+    lower: u64,
+    ghost most: { degree ≤ most_degree },
+    ghost below: { lower < 2 ^ degree },
 }
 
-// The register with the last `count` bits of `value`.
-fn feed_bits(degree: u32, lower: u64, register: u64, value: u64, count: u32) -> u64
-    requires narrow { degree < 64 }
-    requires below { lower < 2 ^ degree }
-    requires few { count ≤ 64 }
-    ensures value { result ≡ fed_bits degree lower register (bits count value) }
-    ensures bound { result < 2 ^ degree }
-{
-    let mut state = register & ((1 << degree) - 1);
-    for k in (0..count).rev() {
-        state = step(degree, lower, state, (value >> k) & 1);
+impl Divisor {
+    // The register with one more bit.
+    fn step(self, register: u64, bit: u64) -> u64
+        requires within { register < 2 ^ self.degree }
+        requires single { bit < 2 }
+        ensures value { result ≡ stepped self.degree self.lower register bit }
+        ensures bound { result < 2 ^ self.degree }
+    {
+        let next = (register << 1) ^ (bit << self.degree);
+        if next >> self.degree == 0 {
+            next
+        } else {
+            next ^ ((1 << self.degree) + self.lower)
+        }
     }
-    state
+
+    // The register with the last `count` bits of a number.
+    fn feed(self, register: u64, value: u64, count: u32) -> u64
+        requires { count ≤ 64 }
+        ensures value { result ≡ fed_bits self.degree self.lower register (bits count value) }
+        ensures bound { result < 2 ^ self.degree }
+    {
+        let mut state = register & ((1 << self.degree) - 1);
+        for k in (0..count).rev() {
+            state = self.step(state, (value >> k) & 1);
+        }
+        state
+    }
+
+    // The same by a table of what a register of zeros is after each `count` bits. The register's bits stand over the first
+    // of the number's, so that one look-up serves both.
+    fn look_up<const N: usize>(self, table: &[u8; N], register: u64, value: u64, count: u32) -> u64
+        requires fits { self.degree ≤ count }
+        requires few { count < 64 }
+        requires table { table.now ≡ after_each self.degree self.lower count }
+        ensures value { result ≡ fed_bits self.degree self.lower register (bits count value) }
+        ensures bound { result < 2 ^ self.degree }
+    {
+        let sum = (register << (count - self.degree)) ^ value;
+        u64::from(table[(sum & ((1 << count) - 1)) as usize])
+    }
 }
 
 /// The register as a check starts: all ones.
 pub fn start<C: Check>() -> u64
-    ensures { result ≡ ones C.Check.degree }
+    ensures { result ≡ ones C.Check.DEGREE }
 {
-    (1 << C::degree_of()) - 1
+    (1 << C::DEGREE) - 1
 }
 
 // The register with the last `count` times four bits of a number.
 pub(crate) fn feed_nibbles<C: Check>(register: u64, value: u64, count: u32) -> u64
     requires { count ≤ 16 }
-    ensures value { result ≡ fed_bits C.Check.degree C.Check.lower register (bits (4 * count) value) }
-    ensures bound { result < 2 ^ C.Check.degree }
+    ensures value { result ≡ fed_bits C.Check.DEGREE C.Check.LOWER register (bits (4 * count) value) }
+    ensures bound { result < 2 ^ C.Check.DEGREE }
 {
     let mut state = register & start::<C>();
     for k in (0..count).rev() {
@@ -101,9 +120,9 @@ pub(crate) fn feed_nibbles<C: Check>(register: u64, value: u64, count: u32) -> u
 
 /// The register with more bytes. Bytes fed in parts, one part after the other, come to the same as all of them at once.
 pub fn feed<C: Check>(register: u64, bytes: &[u8]) -> u64
-    ensures value { result ≡ fed C.Check.degree C.Check.lower register bytes.now }
-    ensures bound { result < 2 ^ C.Check.degree }
-    ensures in_parts { InParts C.Check.degree C.Check.lower register bytes.now result }
+    ensures value { result ≡ fed C.Check.DEGREE C.Check.LOWER register bytes.now }
+    ensures bound { result < 2 ^ C.Check.DEGREE }
+    ensures in_parts { InParts C.Check.DEGREE C.Check.LOWER register bytes.now result }
 {
     let mut state = register & start::<C>();
     for byte in bytes {
@@ -114,8 +133,8 @@ pub fn feed<C: Check>(register: u64, bytes: &[u8]) -> u64
 
 /// The remainder over some bytes.
 pub fn remainder<C: Check>(bytes: &[u8]) -> u64
-    ensures value { result ≡ remainder_of C.Check.degree C.Check.lower bytes.now }
-    ensures bound { result < 2 ^ C.Check.degree }
+    ensures value { result ≡ remainder_of C.Check.DEGREE C.Check.LOWER bytes.now }
+    ensures bound { result < 2 ^ C.Check.DEGREE }
 {
     feed::<C>(start::<C>(), bytes)
 }
@@ -130,9 +149,9 @@ pub fn remainders_divide()
 pub struct Crc4;
 
 impl Check for Crc4 {
-    ghost degree = { crc4_degree };
+    ghost DEGREE = { crc4_degree };
 
-    ghost lower = { crc4_lower };
+    ghost LOWER = { crc4_lower };
 
     const DEGREE: u32 = 4;
 
@@ -144,26 +163,13 @@ impl Check for Crc4 {
 
     ghost below = { Prim.search rules };
 
-    fn degree_of() -> u32 {
-        Self::DEGREE
-    }
-
-    fn lower_of() -> u64 {
-        Self::LOWER
-    }
-
     fn feed_nibble(register: u64, nibble: u64) -> u64 {
-        crc4_by_table(register, nibble)
+        Divisor {
+            degree: Self::DEGREE,
+            lower: Self::LOWER,
+        }
+        .look_up(&AFTER_NIBBLE, register, nibble, 4)
     }
-}
-
-// CRC-4 with the last four bits of a number: they stand under the register's four, so that one look-up serves both.
-fn crc4_by_table(register: u64, nibble: u64) -> u64
-    ensures value { result ≡ fed_bits crc4_degree crc4_lower register (bits 4 nibble) }
-    ensures bound { result < 2 ^ crc4_degree }
-{
-    let sum = (register ^ nibble) & 0xf;
-    u64::from(AFTER_NIBBLE[sum as usize])
 }
 
 // What a CRC-4 register of zeros is after each four bits.
@@ -173,9 +179,9 @@ const AFTER_NIBBLE: [u8; 16] = [0, 3, 6, 5, 12, 15, 10, 9, 11, 8, 13, 14, 7, 4, 
 pub struct Crc6;
 
 impl Check for Crc6 {
-    ghost degree = { crc6_degree };
+    ghost DEGREE = { crc6_degree };
 
-    ghost lower = { crc6_lower };
+    ghost LOWER = { crc6_lower };
 
     const DEGREE: u32 = 6;
 
@@ -187,26 +193,13 @@ impl Check for Crc6 {
 
     ghost below = { Prim.search rules };
 
-    fn degree_of() -> u32 {
-        Self::DEGREE
-    }
-
-    fn lower_of() -> u64 {
-        Self::LOWER
-    }
-
     fn feed_byte(register: u64, byte: u8) -> u64 {
-        crc6_by_table(register, byte)
+        Divisor {
+            degree: Self::DEGREE,
+            lower: Self::LOWER,
+        }
+        .look_up(&AFTER_BYTE, register, u64::from(byte), 8)
     }
-}
-
-// CRC-6 with one more byte: the register's six bits stand over the byte's first six, so that one look-up serves both.
-fn crc6_by_table(register: u64, byte: u8) -> u64
-    ensures value { result ≡ fed_bits crc6_degree crc6_lower register (bits 8 byte) }
-    ensures bound { result < 2 ^ crc6_degree }
-{
-    let sum = ((register << 2) & 0xff) ^ u64::from(byte);
-    u64::from(AFTER_BYTE[sum as usize])
 }
 
 // What a CRC-6 register of zeros is after each byte.

@@ -4,6 +4,7 @@ ghost use Rattle.frame.specs.Header.{header_of};
 ghost use Rattle.frame.specs.Superframe.{code_of, data_of, c6_of, headers_of};
 
 use crate::header::{LAST_FRAME, write};
+use std::array;
 
 /// The events that the link knows, with their codes: evNull, evSyncChange, evConfigSw and evSync.
 #[derive(Clone, Copy, PartialEq, Eq, Debug)]
@@ -60,12 +61,5 @@ fn header_of(crc: u8, event: Event, frame: u8) -> u16
 pub fn headers(crc: u8, event: Event) -> [u16; 6]
     ensures { result ≡ headers_of crc event }
 {
-    [
-        header_of(crc, event, 1),
-        header_of(crc, event, 2),
-        header_of(crc, event, 3),
-        header_of(crc, event, 4),
-        header_of(crc, event, 5),
-        header_of(crc, event, 6),
-    ]
+    array::from_fn(|i| header_of(crc, event, i as u8 + 1))
 }

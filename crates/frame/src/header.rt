@@ -1,7 +1,7 @@
 // A frame header: two bytes, one in each mini-frame of its frame, as one number of 16 bits, the first byte higher.
 // A frame number below 1 counts as 1, above 6 as 6.
 ghost use Rattle.std.specs.Prelude.{◌≡◌, ℕ, ◌+◌, ◌*◌, ◌/◌, ◌%◌, ◌^◌, ◌<◌, Ok, Err, bit_xor};
-ghost use Rattle.frame.specs.Header.{bit_of, sf_of, in6_of, twelve_of, header_of, crc4_right, sf_right, fields_of, verdict_of, read_of, written};
+ghost use Rattle.frame.specs.Header.{bit_of, sf_of, in6_of, twelve_of, header_of, crc4_right, sf_right, fields_of, read_of, written};
 ghost use Rattle.frame.specs.Refusals.{judged, of_header, crc4_refused};
 
 use crate::crc4;
@@ -104,24 +104,16 @@ fn fields_of(header: u16) -> Fields
     }
 }
 
-// The fields, or the refusal: a wrong CRC-4 is told before a wrong SF bit.
-fn verdict(crc4: bool, sf: bool, fields: Fields) -> Result<Fields, HeaderRefusal>
-    ensures { judged of_header result ≡ verdict_of crc4 sf fields }
-{
-    match (crc4, sf) {
-        (false, _) => Err(HeaderRefusal::Crc4Wrong),
-        (_, false) => Err(HeaderRefusal::SfWrong),
-        _ => Ok(fields),
-    }
-}
-
-/// What the header of a frame carries. In6 is not judged.
+/// What the header of a frame carries, or the refusal: a wrong CRC-4 is told before a wrong SF bit. In6 is not judged.
+#[tactic(auto, unfolding(crate::specs::Header::read_of))]
 pub fn read(frame: u8, header: u16) -> Result<Fields, HeaderRefusal>
     ensures { judged of_header result ≡ read_of frame header }
 {
-    verdict(
-        crc4_right(header),
-        sf_right(frame, header),
-        fields_of(header),
-    )
+    if !crc4_right(header) {
+        return Err(HeaderRefusal::Crc4Wrong);
+    }
+    if !sf_right(frame, header) {
+        return Err(HeaderRefusal::SfWrong);
+    }
+    Ok(fields_of(header))
 }

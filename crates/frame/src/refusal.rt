@@ -2,6 +2,7 @@
 ghost use Rattle.std.specs.Prelude.{◌≡◌, Some};
 ghost use Rattle.frame.specs.Refusals.{of_header, words_for};
 
+use std::error::Error;
 use std::fmt;
 
 /// What is wrong with a header.
@@ -37,3 +38,5 @@ impl fmt::Display for HeaderRefusal {
         f.write_str(self.words())
     }
 }
+
+impl Error for HeaderRefusal {}

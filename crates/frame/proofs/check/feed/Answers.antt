@@ -8,12 +8,12 @@ use Rattle.frame.proofs.check.feed.Goals as goal
 
 pub loop-byte-init : goal.loop-byte-init
 loop-byte-init g c =
-    masked_in g.C.Check.degree g.C.Check.lower c.args.register c.start.result (message c.args.bytes.now) c.start.ensures
+    masked_in g.C.Check.DEGREE g.C.Check.LOWER c.args.register c.start.result (message c.args.bytes.now) c.start.ensures
 
 pub loop-byte-preserved : goal.loop-byte-preserved
 loop-byte-preserved g c =
-    let d = g.C.Check.degree in
-    let l = g.C.Check.lower in
+    let d = g.C.Check.DEGREE in
+    let l = g.C.Check.LOWER in
     let below = g.met.C.Check.below in
     let xs = c.args.bytes.now in
     let i = c.loop-byte.byte-index in
@@ -26,8 +26,8 @@ loop-byte-preserved g c =
 
 pub returns : goal.returns
 returns g c =
-    let d = g.C.Check.degree in
-    let l = g.C.Check.lower in
+    let d = g.C.Check.DEGREE in
+    let l = g.C.Check.LOWER in
     let xs = c.args.bytes.now in
     let r = c.loop-byte.state in
     let within = c.loop-byte.invariant.1 in

@@ -6,5 +6,5 @@ use Rattle.frame.proofs.check.feed.Given as goal
 abbrev pub invariant-loop-byte : goal.invariant-loop-byte
 invariant-loop-byte g l =
     let check = g.C.Check in
-    (fed check.degree check.lower l.state (drop l.byte-index l.bytes) ≡ fed check.degree check.lower l.register l.bytes)
-    × (l.state < 2 ^ check.degree)
+    (fed check.DEGREE check.LOWER l.state (drop l.byte-index l.bytes) ≡ fed check.DEGREE check.LOWER l.register l.bytes)
+    × (l.state < 2 ^ check.DEGREE)

@@ -7,12 +7,12 @@ use Rattle.frame.proofs.check.feed_nibbles.Goals as goal
 
 pub loop-k-init : goal.loop-k-init
 loop-k-init g c =
-    masked_in g.C.Check.degree g.C.Check.lower c.args.register c.start.result (bits (4 * c.args.count) c.args.value) c.start.ensures
+    masked_in g.C.Check.DEGREE g.C.Check.LOWER c.args.register c.start.result (bits (4 * c.args.count) c.args.value) c.start.ensures
 
 pub loop-k-preserved : goal.loop-k-preserved
 loop-k-preserved g c =
-    let d = g.C.Check.degree in
-    let l = g.C.Check.lower in
+    let d = g.C.Check.DEGREE in
+    let l = g.C.Check.LOWER in
     let r = c.loop-k.state in
     let v = c.args.value in
     let left = 4 * (c.loop-k.k - 1) in
@@ -23,8 +23,8 @@ loop-k-preserved g c =
 
 pub returns : goal.returns
 returns g c =
-    let d = g.C.Check.degree in
-    let l = g.C.Check.lower in
+    let d = g.C.Check.DEGREE in
+    let l = g.C.Check.LOWER in
     let r = c.loop-k.state in
     let within = c.loop-k.invariant.1 in
     let all : fed_bits d l r (bits (4 * c.loop-k.k) c.args.value) ≡ r =

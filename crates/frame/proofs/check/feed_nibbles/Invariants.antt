@@ -7,5 +7,5 @@ use Rattle.frame.proofs.check.feed_nibbles.Given as goal
 abbrev pub invariant-loop-k : goal.invariant-loop-k
 invariant-loop-k g l =
     let check = g.C.Check in
-    (fed_bits check.degree check.lower l.state (bits (4 * l.k) l.value) ≡ fed_bits check.degree check.lower l.register (bits (4 * l.count) l.value))
-    × (l.state < 2 ^ check.degree)
+    (fed_bits check.DEGREE check.LOWER l.state (bits (4 * l.k) l.value) ≡ fed_bits check.DEGREE check.LOWER l.register (bits (4 * l.count) l.value))
+    × (l.state < 2 ^ check.DEGREE)

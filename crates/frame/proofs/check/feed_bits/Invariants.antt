@@ -1,9 +1,0 @@
-use Rattle.std.proofs.Common.{◌≡◌, ◌%◌, ◌^◌, ◌<◌}
-use Rattle.frame.specs.Division.{divided, bits}
-use Rattle.frame.proofs.check.feed_bits.Given as goal
-
--- what is left of the bits leads where all of them do
-abbrev pub invariant-loop-k : goal.invariant-loop-k
-invariant-loop-k l =
-    (divided l.degree l.lower l.state (bits l.k l.value) ≡ divided l.degree l.lower (l.register % 2 ^ l.degree) (bits l.count l.value))
-    × (l.state < 2 ^ l.degree)
