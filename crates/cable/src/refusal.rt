@@ -2,6 +2,7 @@
 ghost use Rattle.std.specs.Prelude.{◌≡◌, Some};
 ghost use Rattle.cable.specs.Refusals.{of_cable, words_for};
 
+use std::error::Error;
 use std::fmt;
 
 /// What a cable cannot do.
@@ -17,6 +18,7 @@ pub enum CableRefusal {
 
 impl CableRefusal {
     /// The number by which the refusal is told.
+    // No `From` for `u8`: the name says which number this is, and a bare conversion would not.
     pub fn number(self) -> u8
         ensures { result ≡ (of_cable self).number }
     {
@@ -46,3 +48,5 @@ impl fmt::Display for CableRefusal {
         f.write_str(self.words())
     }
 }
+
+impl Error for CableRefusal {}

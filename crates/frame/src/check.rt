@@ -5,14 +5,18 @@ ghost use Rattle.frame.specs.Checks.{most_degree, ones, fed_bits, fed, InParts, 
 ghost use Rattle.frame.specs.Division.{stepped, bits, after_each};
 ghost use Rattle.std.proofs.Common.{rules};
 
-/// A check by its divisor, x^DEGREE + LOWER.
+/// A check by its divisor, x^DEGREE + LOWER. Each impl gives both numbers twice, as a meaning and as a constant, which the
+/// proof holds together.
+// `bound` stands in each contract, and in no type of registers: callers hand in any number, of which the lowest bits count.
 pub trait Check {
     ghost DEGREE: { ℕ };
 
     ghost LOWER: { ℕ };
 
+    /// The degree of the divisor.
     const DEGREE: u32;
 
+    /// The lower terms of the divisor.
     const LOWER: u64;
 
     /// The register with the last four bits of a number.

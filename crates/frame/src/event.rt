@@ -17,6 +17,7 @@ pub enum EventCode {
 
 impl EventCode {
     /// The code as it stands in a header.
+    // No `From` for `u8`: the name says which number this is, and a bare conversion would not.
     pub fn number(self) -> u8
         ensures { result ≡ code_of self }
     {
@@ -25,6 +26,7 @@ impl EventCode {
 }
 
 /// An event: its code and Value[0] to Value[4].
+// The code is a byte, and no `EventCode`: a header may carry any, and a narrower type would ask more of callers.
 #[derive(Clone, Copy, Debug)]
 pub struct Event {
     pub code: u8,

@@ -14,6 +14,7 @@ pub enum HeaderRefusal {
 
 impl HeaderRefusal {
     /// The number by which the refusal is told.
+    // No `From` for `u8`: the name says which number this is, and a bare conversion would not.
     pub fn number(self) -> u8
         ensures { result ≡ (of_header self).number }
     {

@@ -17,7 +17,7 @@ pub extern "C" fn frame_header_write(frame: u8, c6: u8, data: u8) -> u16
     write(frame, c6, data)
 }
 
-/// What the header of a frame carries, as one number, since C has no Result: C6 in bit 9, In6 in bit 8, Data in bits 7 to
+/// What the header of a frame carries, as one number, for C has no Result: C6 in bit 9, In6 in bit 8, Data in bits 7 to
 /// 0; or, where the header is refused, the refusal's number times 65,536.
 #[unsafe(no_mangle)]
 pub extern "C" fn frame_header_read(frame: u8, header: u16) -> u32
