@@ -1,34 +1,24 @@
 -- What the parts of a header come to, and the laws of headers. Assumes nothing.
-use Rattle.std.proofs.Common.{◌≡◌, ℕ, zero, suc, ◌+◌, ◌-◌, ◌*◌, ◌/◌, ◌%◌, ◌^◌, ◌<◌, cond, eqb, [], ◌∷◌, get_or, Ok, Err, Result, sym, refl, ap, ◌∙◌, arith, lit<}
+use Rattle.std.proofs.Common.{◌≡◌, ℕ, ◌+◌, ◌*◌, ◌/◌, ◌%◌, ◌^◌, ◌<◌, false, eqb, Ok, Err, Result, sym, refl, ap, ◌∙◌, arith, lit<}
 use lib.Bits.{bit_xor}
 use Rattle.std.proofs.lemmas.Nat.{xor_shr, xor_mod}
-use Rattle.std.proofs.lemmas.Bool.{eq-eqb, ne_eqb}
+use Rattle.std.proofs.lemmas.Bool.{eq-eqb, ne_eqb, eqb-false, agree_below_at}
 use Rattle.std.proofs.lemmas.Bool.Decides.{nat_tests}
 use Rattle.frame.specs.declared.header.Fields.{Fields}
 use Rattle.frame.specs.Checks.{fed_bits, crc4_of}
 use Rattle.frame.specs.Division.{reduced, stepped, divided, bits}
-use Rattle.frame.specs.Header.{frame_of, bit_of, sf_of, in6_of, twelve_of, header_of, read_of, written}
+use Rattle.frame.specs.Header.{bit_of, sf_of, in6_of, twelve_of, header_of, read_of, written}
 use Rattle.frame.specs.Refusals.{Refused, crc4_refused}
 use Rattle.frame.proofs.Feeding.{fed_bits_below}
 use Rattle.frame.proofs.Linear.{divided_bits_add}
 use Rattle.frame.proofs.Steps.{bits_are_bits}
 use Rattle.frame.proofs.Sums.{cancel_front}
-use Rattle.frame.proofs.Tables.{same_below}
 
 pub sf_below : (f : ℕ) → sf_of f < 2
 sf_below f = grind (arith, nat_tests)
 
-in6_listed : (k : ℕ) → get_or (0 ∷ 1 ∷ 0 ∷ 1 ∷ 1 ∷ 1 ∷ []) k 0 < 2
-in6_listed zero = lit< tt
-in6_listed (suc zero) = lit< tt
-in6_listed (suc (suc zero)) = lit< tt
-in6_listed (suc (suc (suc zero))) = lit< tt
-in6_listed (suc (suc (suc (suc zero)))) = lit< tt
-in6_listed (suc (suc (suc (suc (suc zero))))) = lit< tt
-in6_listed (suc (suc (suc (suc (suc (suc k)))))) = lit< tt
-
 pub in6_below : (f : ℕ) → in6_of f < 2
-in6_below f = in6_listed (frame_of f - 1)
+in6_below f = grind (arith, nat_tests)
 
 pub crc4_below : (v : ℕ) → crc4_of v < 16
 crc4_below v = fed_bits_below 4 3 15 (bits 12 v) (lit< tt) (bits_are_bits 12 v)
@@ -114,11 +104,7 @@ changed x e right still =
 -- one bit by itself would not, as antt computes
 one_bit : (k : ℕ) → k < 16 → 2 ^ k % 2 ^ 4 ≡ divided 4 3 0 (bits 12 (2 ^ k / 2 ^ 4)) → ⊥
 unfolding reduced stepped divided bits
-one_bit k h e =
-    let z : cond {A = ℕ} (eqb (2 ^ k % 2 ^ 4) (divided 4 3 0 (bits 12 (2 ^ k / 2 ^ 4)))) 1 0 ≡ 0 =
-    same_below (λ j. cond {A = ℕ} (eqb (2 ^ j % 2 ^ 4) (divided 4 3 0 (bits 12 (2 ^ j / 2 ^ 4)))) 1 0) (λ _. 0) 16 refl k h in
-    let one : ◌≡◌ {A = ℕ} 1 0 = rw (eq-eqb (2 ^ k % 2 ^ 4) (divided 4 3 0 (bits 12 (2 ^ k / 2 ^ 4))) e) at z in
-    omega arith
+one_bit k h = eqb-false _ _ (agree_below_at (λ j. eqb (2 ^ j % 2 ^ 4) (divided 4 3 0 (bits 12 (2 ^ j / 2 ^ 4)))) (λ _. false) 16 k refl h)
 
 -- a header with one bit changed has a wrong CRC-4
 pub changed_bit_refused : (f c d k : ℕ) → d < 256 → k < 16 → read_of f (bit_xor (header_of f c d) (2 ^ k)) ≡ Err crc4_refused
