@@ -4,9 +4,9 @@ use native.Mathlib.Nat.{div-eq_of_lt}
 use lib.Bits.{bit_xor, xor_comm, xor_lt, xor_zero_r}
 use Rattle.std.proofs.lemmas.Bool.{cases_lt}
 use Rattle.std.proofs.lemmas.Bool.Decides.{nat_tests}
-use Rattle.std.proofs.lemmas.Nat.{xor_shr, xor_mod}
+use Rattle.std.proofs.lemmas.Nat.{pow_pos, xor_shr, xor_mod}
 use Rattle.frame.specs.Division.{reduced, stepped, divided, bits, Bits}
-use Rattle.frame.proofs.Steps.{below_from_shr, above_from_shr, pow_next, reduced_low, widened_below, stepped_below, bits_are_bits}
+use Rattle.frame.proofs.Steps.{pow_next, reduced_low, widened_below, stepped_below, bits_are_bits}
 use Rattle.frame.proofs.Sums.{swap_last, cancel_both, exchange, pow_xor, twice_xor}
 
 -- a summand of a degree below d leaves the terms from x^d on as they are
@@ -15,7 +15,7 @@ high_same d t s h = cc (xor_shr t s d, div-eq_of_lt h, xor_zero_r (t / 2 ^ d))
 
 reduced_one : (d l t s : ℕ) → 2 ^ d ≤ t → s < 2 ^ d → reduced d l (bit_xor t s) ≡ bit_xor (reduced d l t) (reduced d l s)
 unfolding reduced
-reduced_one d l t s hi lo = grind (arith, nat_tests, high_same d t s, below_from_shr, above_from_shr, swap_last t s (2 ^ d + l))
+reduced_one d l t s hi lo = grind (arith, nat_tests, high_same d t s, pow_pos d, swap_last t s (2 ^ d + l))
 
 -- a degree of just d: the quotient by 2^d is 1
 top_one : (d t : ℕ) → 2 ^ d ≤ t → t < 2 ^ (d + 1) → t / 2 ^ d ≡ 1
@@ -24,7 +24,7 @@ top_one d t lo hi = grind (arith, pow_next d)
 reduced_both : (d l t s : ℕ) → 2 ^ d ≤ t → t < 2 ^ (d + 1) → 2 ^ d ≤ s → s < 2 ^ (d + 1)
     → reduced d l (bit_xor t s) ≡ bit_xor (reduced d l t) (reduced d l s)
 unfolding reduced
-reduced_both d l t s ht ht' hs hs' = grind (arith, nat_tests, xor_shr t s d, top_one, below_from_shr, cancel_both t s (2 ^ d + l))
+reduced_both d l t s ht ht' hs hs' = grind (arith, nat_tests, xor_shr t s d, top_one, pow_pos d, cancel_both t s (2 ^ d + l))
 
 pub reduced_add : (d l t s : ℕ) → t < 2 ^ (d + 1) → s < 2 ^ (d + 1) → reduced d l (bit_xor t s) ≡ bit_xor (reduced d l t) (reduced d l s)
 reduced_add d l t s ht hs =

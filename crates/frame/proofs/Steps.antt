@@ -5,9 +5,6 @@ use Rattle.std.proofs.lemmas.Bool.Decides.{nat_tests}
 use Rattle.std.proofs.lemmas.Nat.{shl_whole, one_shl, shl_below, shr-shr, mod_below, pow_pos, pow-add}
 use Rattle.frame.specs.Division.{reduced, stepped, divided, bits, message, Bits}
 
-pub below_from_shr : (t d : ℕ) → t / 2 ^ d ≡ 0 → t < 2 ^ d
-below_from_shr t d h = grind (arith, pow_pos d)
-
 pub above_from_shr : (t d : ℕ) → (t / 2 ^ d ≡ 0 → ⊥) → 2 ^ d ≤ t
 above_from_shr t d h = grind (arith, pow_pos d)
 
@@ -49,7 +46,7 @@ module _ (d l r b : ℕ) (most : d < 64) (hl : l < 2 ^ d) (hr : r < 2 ^ d) (hb :
 
   pub step_low : widened d r b / 2 ^ d ≡ 0 → widened d r b ≡ stepped d l r b
   unfolding stepped
-  step_low h = grind (arith, widened_is, below_from_shr (widened d r b) d, reduced_low)
+  step_low h = grind (arith, widened_is, pow_pos d, reduced_low)
 
   pub step_high : (widened d r b / 2 ^ d ≡ 0 → ⊥) → bit_xor (widened d r b) ((1 * 2 ^ d) % 2 ^ 64 + l) ≡ stepped d l r b
   unfolding stepped
