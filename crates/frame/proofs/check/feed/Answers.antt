@@ -30,8 +30,11 @@ returns g c =
     let l = g.C.Check.LOWER in
     let xs = c.args.bytes.now in
     let r = c.loop-byte.state in
-    let within = c.loop-byte.invariant.1 in
-    let all : fed d l r (drop c.loop-byte.byte-index xs) ≡ r =
-    at_drop_all (fed d l r) xs c.loop-byte.byte-index c.loop-byte-test.false ∙ fed_bits_nil d l r ∙ mod-eq_of_lt within in
-    let is : r ≡ fed d l c.args.register xs = sym all ∙ c.loop-byte.invariant.0 in
-    record { value = is; bound = within; in_parts = λ first rest e. in_parts d l c.args.register xs g.met.C.Check.below first rest e ∙ sym is }
+    let all = at_drop_all (fed d l r) xs c.loop-byte.byte-index c.loop-byte-test.false in
+    let none = fed_bits_nil d l r in
+    let is : r ≡ fed d l c.args.register xs = cc (mod-eq_of_lt c.loop-byte.invariant.1) in
+    record {
+      value = is;
+      bound = c.loop-byte.invariant.1;
+      in_parts = λ first rest e. in_parts d l c.args.register xs g.met.C.Check.below first rest e ∙ sym is;
+    }
