@@ -55,12 +55,12 @@ pub one_from : (l : Line) → 0 < length l.held → has_arrived l (held_at l 0) 
 one_from l h a = grind (arith, nat_tests)
 
 pub one_parts : (l : Line) → has_one l ≡ true → (0 < length l.held) × (has_arrived l (held_at l 0) ≡ true)
-one_parts l h = (grind (arith, nat_tests), grind (arith, nat_tests))
+one_parts l h = grind (arith, nat_tests)
 
 -- what a since tells
 pub since_some : (l : Line) (k : ℕ) (z : ℤ) → Some z ≡ cond (ltb k (length l.held)) (Some (since_of l (held_at l k))) None
     → (k < length l.held) × (z ≡ since_of l (held_at l k))
-since_some l k z h = (grind (arith, nat_tests), grind (arith, nat_tests))
+since_some l k z h = grind (arith, nat_tests)
 
 pub since_none : (l : Line) (k : ℕ) → None ≡ cond (ltb k (length l.held)) (Some (since_of l (held_at l k))) None → ltb k (length l.held) ≡ false
 since_none l k h = grind (arith, nat_tests)

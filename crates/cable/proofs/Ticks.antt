@@ -26,11 +26,11 @@ ticked_left (suc n) m h = grind (arith, nat_tests, ticked_left n (tick_after m))
 
 -- one tick more, of those that are to pass
 pub passed_more : (m x : Model) (n : ℕ) → x ≡ ticked n m → n ≤ m.left → Ok tt ≡ tick_said x → (tick_after x ≡ ticked (n + 1) m) × (n + 1 ≤ m.left)
-passed_more m x n is few said = (cc (ticked_more n m), grind (arith, nat_tests, ticked_left))
+passed_more m x n is few said = grind (arith, nat_tests, ticked_more n m, ticked_left n m)
 
 pub passed_all : (m x : Model) (n ticks : ℕ) (r : Refused) → x ≡ ticked n m → n ≤ m.left → n < ticks → Err r ≡ tick_said x
     → (Err r ≡ ticked_said ticks m) × (tick_after x ≡ ticked ticks m)
-passed_all m x n ticks r is few less said = (grind (arith, nat_tests, ticked_left n m), grind (arith, nat_tests, ticked_spent n (ticks - n) m))
+passed_all m x n ticks r is few less said = grind (arith, nat_tests, ticked_left n m, ticked_spent n (ticks - n) m)
 
 -- a line n ticks later
 pub record Later (n : ℕ) (l k : Line) : Type 0 where

@@ -44,6 +44,6 @@ pub divides : (d l : ℕ) (bs : List ℕ) → l < 2 ^ d → Bits bs → Remainde
 unfolding Quotient
 divides d l bs hl hb =
     let below : ones d < 2 ^ d = omega (arith, pow_pos d) in
-    let begun : bit_xor 0 (ones d) ≡ bit_xor (0 * 2 ^ d) (ones d) = ap (λ x. bit_xor x (ones d)) (sym (zero-mul (2 ^ d))) in
+    let begun : bit_xor 0 (ones d) ≡ bit_xor (0 * 2 ^ d) (ones d) = rw zero-mul in
     let whole = quotient d l 0 (ones d) 0 (ones d) bs begun in
     (divided_below d l (ones d) bs hl below hb, whole)

@@ -6,18 +6,15 @@ use Rattle.frame.proofs.check.feed_nibbles.Goals as goal
 
 pub loop-k-init : goal.loop-k-init
 loop-k-init g c =
-    masked_in g.C.Check.DEGREE g.C.Check.LOWER c.args.register c.start.result (bits (4 * c.args.count) c.args.value) c.start.ensures
+    masked_in _ _ _ _ _ c.start.ensures
 
 pub loop-k-preserved : goal.loop-k-preserved
 loop-k-preserved g c =
-    let d = g.C.Check.DEGREE in
-    let l = g.C.Check.LOWER in
-    let r = c.loop-k.state in
     let v = c.args.value in
     let left = 4 * (c.loop-k.k - 1) in
     let nibble = v / 2 ^ left in
     let next = bits_split 4 left (4 * c.loop-k.k) v (omega arith) in
-    let parts = fed_bits_append d l r (bits 4 nibble) (bits left v) g.met.C.Check.below (bits_are_bits 4 nibble) in
+    let parts = fed_bits_append g.C.Check.DEGREE g.C.Check.LOWER c.loop-k.state (bits 4 nibble) (bits left v) g.met.C.Check.below (bits_are_bits 4 nibble) in
     (cc, c.feed_nibble-state.ensures.bound)
 
 pub returns : goal.returns

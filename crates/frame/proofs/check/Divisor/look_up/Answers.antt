@@ -21,4 +21,4 @@ returns g c =
     let p = c.requires in
     let up = looked_up s.degree s.lower c.args.count c.args.register c.args.value p.fits p.few s.below in
     let is : c.from.result ≡ fed_bits s.degree s.lower c.args.register (bits c.args.count c.args.value) = cc (c.from.ensures) in
-    record { value = is; bound = rw is (fed_bits_below s.degree s.lower c.args.register (bits c.args.count c.args.value) s.below (bits_are_bits c.args.count c.args.value)) }
+    record { value = is; bound = rw is (fed_bits_below _ _ _ _ s.below (bits_are_bits c.args.count c.args.value)) }
