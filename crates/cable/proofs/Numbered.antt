@@ -1,8 +1,8 @@
 -- Lists made from a function of the place. Assumes nothing.
-use Rattle.std.proofs.Common.{◌≡◌, ℕ, ◌+◌, ◌-◌, ◌<◌, ◌≤◌, List, map, length, get_or, drop, set, sym, ap, ◌∙◌, ⊎_elim, arith, length-set}
-use lib.ListN.{length-map}
-use Rattle.std.proofs.lemmas.List.FromFn.{length-map-range_with_len, get_or-map-range_with_len}
-use Rattle.std.proofs.lemmas.List.{ext_get_or, get_or_past, get_or-set_same, get_or-set_other, get_or-map, length-drop, get_or-drop}
+use mathlib.Core.List.{map-map}
+use Rattle.std.proofs.Common.{◌≡◌, ℕ, ◌+◌, ◌-◌, ◌<◌, ◌≤◌, List, map, length, get_or, drop, set, sym, ◌∙◌, arith, length-set}
+use Rattle.std.proofs.lemmas.List.FromFn.{fill_by_all, length-map-range_with_len, get_or-map-range_with_len}
+use Rattle.std.proofs.lemmas.List.{get_or_past, get_or-set_same, get_or-set_other, length-drop, get_or-drop}
 use Rattle.std.proofs.lemmas.Bool.{cases_eq}
 use Rattle.cable.specs.Model.{numbered}
 
@@ -18,8 +18,7 @@ module _ {X : Type 0} where
 
   -- a list is numbered by what stands in it
   pub numbered_by : (xs : List X) (n : ℕ) (f : ℕ → X) (d : X) → length xs ≡ n → ((q : ℕ) → q < n → get_or xs q d ≡ f q) → xs ≡ numbered n f
-  numbered_by xs n f d e h = ext_get_or d xs (numbered n f) (e ∙ sym (numbered_length n f))
-      (λ q l. let k : q < n = omega arith in h q k ∙ sym (numbered_at n f q d k))
+  numbered_by xs n f d e h = fill_by_all f xs n d e h
 
   pub numbered_same : (n : ℕ) (f g : ℕ → X) (d : X) → ((q : ℕ) → q < n → f q ≡ g q) → numbered n f ≡ numbered n g
   numbered_same n f g d h = numbered_by (numbered n f) n g d (numbered_length n f) (λ q k. numbered_at n f q d k ∙ h q k)
@@ -28,21 +27,14 @@ module _ {X : Type 0} where
   pub numbered_set : (n p : ℕ) (f g : ℕ → X) (v : X) → p < n → g p ≡ v → ((q : ℕ) → q < n → (q ≡ p → ⊥) → g q ≡ f q)
       → numbered n g ≡ set (numbered n f) p v
   numbered_set n p f g v l here there =
-      sym (numbered_by (set (numbered n f) p v) n g v (length-set (numbered n f) p v ∙ numbered_length n f)
-      (λ q k. ⊎_elim
-      (λ (e : q ≡ p). rw e (get_or-set_same (numbered n f) p v v (omega (arith, numbered_length n f)) ∙ sym here))
-      (λ (ne : q ≡ p → ⊥). get_or-set_other (numbered n f) p q v v ne ∙ numbered_at n f q v k ∙ sym (there q k ne))
-      (cases_eq q p)))
+      sym (numbered_by (set (numbered n f) p v) n g v (simp (length-set, numbered_length))
+      (λ q k. grind (arith, cases_eq q p, there q k, get_or-set_same, get_or-set_other, numbered_at, numbered_length)))
 
   -- the first left out
   pub numbered_drop : (n : ℕ) (f g : ℕ → X) (d : X) → 0 < n → ((k : ℕ) → k < n - 1 → g k ≡ f (k + 1)) → numbered (n - 1) g ≡ drop 1 (numbered n f)
   numbered_drop n f g d some next =
-      sym (numbered_by (drop 1 (numbered n f)) (n - 1) g d (omega (arith, length-drop 1 (numbered n f), numbered_length n f))
-      (λ k l.
-      let e : 1 + k ≡ k + 1 = omega arith in
-      get_or-drop 1 (numbered n f) k d ∙ numbered_at n f (1 + k) d (omega arith) ∙ ap f e ∙ sym (next k l)))
+      sym (numbered_by (drop 1 (numbered n f)) (n - 1) g d (simp (length-drop, numbered_length))
+      (λ k l. grind (arith, get_or-drop 1 (numbered n f) k d, numbered_at n f (k + 1) d, next k l)))
 
 pub numbered_map : {X Y : Type 0} (g : X → Y) (n : ℕ) (f : ℕ → X) (d : X) → map g (numbered n f) ≡ numbered n (λ q. g (f q))
-numbered_map g n f d =
-    numbered_by (map g (numbered n f)) n (λ q. g (f q)) (g d) (length-map (numbered n f) g ∙ numbered_length n f)
-    (λ q k. get_or-map g (numbered n f) q d (g d) (omega (arith, numbered_length n f)) ∙ ap g (numbered_at n f q d k))
+numbered_map g n f d = simp map-map

@@ -13,15 +13,14 @@ fed_bits_below d l r bs hl hb = divided_below d l (r % 2 ^ d) bs hl (mod_below r
 -- a register within its d bits counts whole
 pub fed_bits_within : (d l r : ℕ) (bs : List ℕ) → r < 2 ^ d → fed_bits d l r bs ≡ divided d l r bs
 unfolding fed_bits
-fed_bits_within d l r bs h = ap (λ x. divided d l x bs) (mod-eq_of_lt h)
+fed_bits_within d l r bs h = rw (mod-eq_of_lt h)
 
 -- only the d lowest bits of a register count, and a mask of ones cuts them out
 pub masked_in : (d l r mask : ℕ) (bs : List ℕ) → mask ≡ ones d → (fed_bits d l (bit_and r mask) bs ≡ fed_bits d l r bs) × (bit_and r mask < 2 ^ d)
 unfolding fed_bits
 masked_in d l r mask bs e =
-    let is : bit_and r mask ≡ r % 2 ^ d = ap (bit_and r) e ∙ and_mask r d in
-    let within : r % 2 ^ d < 2 ^ d = mod_below r (2 ^ d) (pow_pos d) in
-    (ap (λ x. fed_bits d l x bs) is ∙ fed_bits_within d l (r % 2 ^ d) bs within, rw is within)
+    let is : bit_and r mask ≡ r % 2 ^ d = cc (and_mask r d) in
+    (grind (arith, is, mod-eq_of_lt, mod_below, pow_pos d), grind (arith, is, pow_pos d))
 
 pub fed_bits_append : (d l r : ℕ) (xs ys : List ℕ) → l < 2 ^ d → Bits xs → fed_bits d l r (xs ++ ys) ≡ fed_bits d l (fed_bits d l r xs) ys
 unfolding fed_bits
@@ -30,7 +29,7 @@ fed_bits_append d l r xs ys hl hx =
 
 message_append : (xs ys : List ℕ) → message (xs ++ ys) ≡ message xs ++ message ys
 message_append [] ys = refl
-message_append (x ∷ xs) ys = ap (λ zs. bits 8 x ++ zs) (message_append xs ys) ∙ sym (append_assoc (bits 8 x) (message xs) (message ys))
+message_append (x ∷ xs) ys = cc (message_append xs ys, append_assoc (bits 8 x) (message xs) (message ys))
 
 -- bytes that come in two parts
 pub fed_append : (d l r : ℕ) (xs ys : List ℕ) → l < 2 ^ d → fed d l r (xs ++ ys) ≡ fed d l (fed d l r xs) ys
@@ -52,4 +51,4 @@ pub crc6_fed_append : (r : ℕ) (xs ys : List ℕ) → crc6_fed r (xs ++ ys) ≡
 crc6_fed_append r xs ys = fed_append 6 3 r xs ys (lit< tt)
 
 pub crc6_end_nil : (r : ℕ) → crc6_end (crc6_fed r []) ≡ crc6_end r
-crc6_end_nil r = ap crc6_end (fed_bits_nil 6 3 r) ∙ omega arith
+crc6_end_nil r = grind (arith, fed_bits_nil)

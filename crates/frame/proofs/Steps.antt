@@ -1,18 +1,12 @@
 -- One step of a division and a row of them: bounds, and what the code's shifts at 64 bits come to. Assumes nothing.
-use Rattle.std.proofs.Common.{◌≡◌, ℕ, zero, suc, ◌+◌, ◌-◌, ◌*◌, ◌/◌, ◌%◌, ◌^◌, ◌<◌, ◌≤◌, List, [], ◌∷◌, ◌++◌, sym, refl, ap, ◌∙◌, ap₂, ⊎_elim, zero-mul, arith, le-ltb, lt-ltb}
-use native.Mathlib.Nat.{div-eq_of_lt}
+use Rattle.std.proofs.Common.{◌≡◌, ℕ, zero, suc, ◌+◌, ◌-◌, ◌*◌, ◌/◌, ◌%◌, ◌^◌, ◌<◌, ◌≤◌, List, [], ◌∷◌, ◌++◌, refl, ap, arith}
 use lib.Bits.{bit_and, bit_xor, and_mask, xor_block, xor_lt}
-use Rattle.std.proofs.lemmas.Nat.{shl_whole, one_shl, shl_below, shr-shr, shr_split, mod_below, pow_pos, pow-add}
-use Rattle.std.proofs.lemmas.Bool.{cases_lt}
+use Rattle.std.proofs.lemmas.Bool.Decides.{nat_tests}
+use Rattle.std.proofs.lemmas.Nat.{shl_whole, one_shl, shl_below, shr-shr, mod_below, pow_pos, pow-add}
 use Rattle.frame.specs.Division.{reduced, stepped, divided, bits, message, Bits}
 
-pub below_from_shr : (t d : ℕ) → t / 2 ^ d ≡ 0 → t < 2 ^ d
-below_from_shr t d h =
-    let z : t / 2 ^ d * 2 ^ d ≡ 0 = ap (λ q. q * 2 ^ d) h ∙ zero-mul (2 ^ d) in
-    omega (arith, shr_split t d, mod_below t (2 ^ d) (pow_pos d))
-
 pub above_from_shr : (t d : ℕ) → (t / 2 ^ d ≡ 0 → ⊥) → 2 ^ d ≤ t
-above_from_shr t d h = ⊎_elim (λ (lt : t < 2 ^ d). absurd (h (div-eq_of_lt lt))) (λ le. le) (cases_lt t (2 ^ d))
+above_from_shr t d h = grind (arith, pow_pos d)
 
 -- 2^(d+1), as omega reads it
 pub pow_next : (d : ℕ) → 2 ^ (d + 1) ≡ 2 ^ d * 2
@@ -20,33 +14,23 @@ pow_next d = pow-add 2 d 1
 
 pub reduced_low : (d l t : ℕ) → t < 2 ^ d → reduced d l t ≡ t
 unfolding reduced
-reduced_low d l t h = rw (lt-ltb t (2 ^ d) h)
+reduced_low d l t h = grind (arith, nat_tests)
 
 pub reduced_high : (d l t : ℕ) → 2 ^ d ≤ t → reduced d l t ≡ bit_xor t (2 ^ d + l)
 unfolding reduced
-reduced_high d l t h = rw (le-ltb t (2 ^ d) h)
+reduced_high d l t h = grind (arith, nat_tests)
 
 -- a remainder times x, plus a bit times x^d, has a degree of at most d
 pub widened_below : (d r b : ℕ) → r < 2 ^ d → b < 2 → bit_xor (r * 2) (b * 2 ^ d) < 2 ^ (d + 1)
-widened_below d r b hr hb =
-    let e : 1 + d ≡ d + 1 = omega arith in
-    xor_lt (d + 1) (r * 2) (b * 2 ^ d) (shl_below r d 1 hr) (rw e at (shl_below b 1 d hb))
+widened_below d r b hr hb = grind (arith, xor_lt (d + 1) (r * 2) (b * 2 ^ d), shl_below r d 1, shl_below b 1 d)
 
 -- the divisor taken away leaves a degree below d
 pub taken_away : (d l t : ℕ) → l < 2 ^ d → 2 ^ d ≤ t → t < 2 ^ (d + 1) → bit_xor t (2 ^ d + l) < 2 ^ d
-taken_away d l t hl lo hi =
-    let s : ℕ = t - 2 ^ d in
-    let hs : s < 2 ^ d = omega (arith, pow_next d) in
-    let et : 1 * 2 ^ d + s ≡ t = omega arith in
-    let el : 1 * 2 ^ d + l ≡ 2 ^ d + l = omega arith in
-    let z : bit_xor t (2 ^ d + l) ≡ bit_xor s l = ap₂ bit_xor (sym et) (sym el) ∙ xor_block d 1 1 s l hs hl ∙ omega arith in
-    rw z (xor_lt d s l hs hl)
+taken_away d l t hl lo hi = grind (arith, xor_block d 1 1 (t - 2 ^ d) l, xor_lt d (t - 2 ^ d) l, pow_next d)
 
 pub reduced_below : (d l t : ℕ) → l < 2 ^ d → t < 2 ^ (d + 1) → reduced d l t < 2 ^ d
-reduced_below d l t hl ht =
-    ⊎_elim (λ (lo : t < 2 ^ d). rw (reduced_low d l t lo) lo)
-    (λ (hi : 2 ^ d ≤ t). rw (reduced_high d l t hi) (taken_away d l t hl hi ht))
-    (cases_lt t (2 ^ d))
+unfolding reduced
+reduced_below d l t hl ht = grind (arith, nat_tests, taken_away)
 
 pub stepped_below : (d l r b : ℕ) → l < 2 ^ d → r < 2 ^ d → b < 2 → stepped d l r b < 2 ^ d
 unfolding stepped
@@ -58,46 +42,36 @@ widened d r b = bit_xor ((r * 2) % 2 ^ 64) ((b * 2 ^ d) % 2 ^ 64)
 
 module _ (d l r b : ℕ) (most : d < 64) (hl : l < 2 ^ d) (hr : r < 2 ^ d) (hb : b < 2) where
   widened_is : widened d r b ≡ bit_xor (r * 2) (b * 2 ^ d)
-  widened_is = ap₂ bit_xor (shl_whole r d 1 64 hr (omega arith)) (shl_whole b 1 d 64 hb (omega arith))
+  widened_is = grind (arith, shl_whole r d 1 64, shl_whole b 1 d 64)
 
   pub step_low : widened d r b / 2 ^ d ≡ 0 → widened d r b ≡ stepped d l r b
   unfolding stepped
-  step_low h =
-      let low = below_from_shr (widened d r b) d h in
-      widened_is ∙ sym (reduced_low d l (bit_xor (r * 2) (b * 2 ^ d)) (rw widened_is at low))
+  step_low h = grind (arith, widened_is, pow_pos d, reduced_low)
 
   pub step_high : (widened d r b / 2 ^ d ≡ 0 → ⊥) → bit_xor (widened d r b) ((1 * 2 ^ d) % 2 ^ 64 + l) ≡ stepped d l r b
   unfolding stepped
-  step_high h =
-      let high = above_from_shr (widened d r b) d h in
-      ap₂ bit_xor widened_is (ap (λ x. x + l) (one_shl d 64 most))
-      ∙ sym (reduced_high d l (bit_xor (r * 2) (b * 2 ^ d)) (rw widened_is at high))
+  step_high h = grind (arith, widened_is, above_from_shr (widened d r b) d, one_shl d 64, reduced_high)
 
 -- the code's mask
 pub masked : (d r : ℕ) → d < 64 → bit_and r ((1 * 2 ^ d) % 2 ^ 64 - 1) ≡ r % 2 ^ d
-masked d r h = ap (λ m. bit_and r (m - 1)) (one_shl d 64 h) ∙ and_mask r d
+masked d r h = rw one_shl (and_mask r d)
 
 -- the bits of v, one taken off the front
 pub bits_next : (v k : ℕ) → 0 < k → bits k v ≡ v / 2 ^ (k - 1) % 2 ∷ bits (k - 1) v
 unfolding bits
-bits_next v zero h = absurd (omega arith)
-bits_next v (suc k) h = let e : suc k - 1 ≡ k = omega arith in rw e
+bits_next v zero h = grind arith
+bits_next v (suc k) h = grind arith
 
 pub bits_none : (v k : ℕ) → k ≤ 0 → bits k v ≡ []
 unfolding bits
-bits_none v zero h = refl
-bits_none v (suc k) h = absurd (omega arith)
+bits_none v k h = grind arith
 
 -- the first m of m + j bits, and the rest
 pub bits_split : (m j t v : ℕ) → m + j ≡ t → bits t v ≡ bits m (v / 2 ^ j) ++ bits j v
 unfolding bits
-bits_split zero j t v e = let same : t ≡ j = omega arith in ap (λ x. bits x v) same
-bits_split (suc m) j zero v e = absurd (omega arith)
-bits_split (suc m) j (suc t) v e =
-    let less : m + j ≡ t = omega arith in
-    let place : j + m ≡ t = omega arith in
-    let head : v / 2 ^ t % 2 ≡ v / 2 ^ j / 2 ^ m % 2 = ap (λ x. x % 2) (ap (λ x. v / 2 ^ x) (sym place) ∙ sym (shr-shr v j m)) in
-    ap₂ (λ x xs. x ∷ xs) head (bits_split m j t v less)
+bits_split zero j t v e = grind arith
+bits_split (suc m) j zero v e = grind arith
+bits_split (suc m) j (suc t) v e = grind (arith, shr-shr v j m, bits_split m j t v)
 
 -- each bit is 0 or 1
 pub bits_are_bits : (n v : ℕ) → Bits (bits n v)

@@ -1,4 +1,4 @@
-use Rattle.std.proofs.Common.{◌≡◌, ◌+◌, ◌++◌, get_or, drop, sym, ◌∙◌, mod-eq_of_lt}
+use Rattle.std.proofs.Common.{◌≡◌, ◌+◌, ◌++◌, get_or, drop, mod-eq_of_lt}
 use Rattle.std.proofs.lemmas.List.{at_drop_more, at_drop_all}
 use Rattle.frame.specs.Checks.{fed_bits, fed}
 use Rattle.frame.specs.Division.{bits, message}
@@ -8,20 +8,18 @@ use Rattle.frame.proofs.check.feed.Goals as goal
 
 pub loop-byte-init : goal.loop-byte-init
 loop-byte-init g c =
-    masked_in g.C.Check.DEGREE g.C.Check.LOWER c.args.register c.start.result (message c.args.bytes.now) c.start.ensures
+    masked_in _ _ _ _ _ c.start.ensures
 
 pub loop-byte-preserved : goal.loop-byte-preserved
 loop-byte-preserved g c =
     let d = g.C.Check.DEGREE in
     let l = g.C.Check.LOWER in
-    let below = g.met.C.Check.below in
     let xs = c.args.bytes.now in
     let i = c.loop-byte.byte-index in
-    let r = c.loop-byte.state in
     let x = get_or xs i 0 in
-    let next : fed d l r (drop i xs) ≡ fed_bits d l r (bits 8 x ++ message (drop (i + 1) xs)) =
-    at_drop_more (fed d l r) xs i 0 c.loop-byte-test.true in
-    let parts = fed_bits_append d l r (bits 8 x) (message (drop (i + 1) xs)) below (bits_are_bits 8 x) in
+    let next : fed d l c.loop-byte.state (drop i xs) ≡ fed_bits d l c.loop-byte.state (bits 8 x ++ message (drop (i + 1) xs))
+    = at_drop_more (fed d l c.loop-byte.state) xs i 0 c.loop-byte-test.true in
+    let parts = fed_bits_append d l c.loop-byte.state (bits 8 x) (message (drop (i + 1) xs)) g.met.C.Check.below (bits_are_bits 8 x) in
     (cc, c.feed_byte-state.ensures.bound)
 
 pub returns : goal.returns
@@ -30,8 +28,11 @@ returns g c =
     let l = g.C.Check.LOWER in
     let xs = c.args.bytes.now in
     let r = c.loop-byte.state in
-    let within = c.loop-byte.invariant.1 in
-    let all : fed d l r (drop c.loop-byte.byte-index xs) ≡ r =
-    at_drop_all (fed d l r) xs c.loop-byte.byte-index c.loop-byte-test.false ∙ fed_bits_nil d l r ∙ mod-eq_of_lt within in
-    let is : r ≡ fed d l c.args.register xs = sym all ∙ c.loop-byte.invariant.0 in
-    record { value = is; bound = within; in_parts = λ first rest e. in_parts d l c.args.register xs g.met.C.Check.below first rest e ∙ sym is }
+    let all = at_drop_all (fed d l r) xs c.loop-byte.byte-index c.loop-byte-test.false in
+    let none = fed_bits_nil d l r in
+    let is : r ≡ fed d l c.args.register xs = cc (mod-eq_of_lt c.loop-byte.invariant.1) in
+    record {
+      value = is;
+      bound = c.loop-byte.invariant.1;
+      in_parts = rw is (in_parts d l c.args.register xs g.met.C.Check.below);
+    }

@@ -1,5 +1,4 @@
-use Rattle.std.proofs.Common.{◌≡◌, ◌-◌, ◌*◌, ◌/◌, ◌^◌, sym, ap, ◌∙◌, mod-eq_of_lt, arith}
-use Rattle.frame.specs.Checks.{fed_bits}
+use Rattle.std.proofs.Common.{◌-◌, ◌*◌, ◌/◌, ◌^◌, mod-eq_of_lt, arith}
 use Rattle.frame.specs.Division.{bits}
 use Rattle.frame.proofs.Feeding.{masked_in, fed_bits_append, fed_bits_nil}
 use Rattle.frame.proofs.Steps.{bits_none, bits_split, bits_are_bits}
@@ -7,26 +6,19 @@ use Rattle.frame.proofs.check.feed_nibbles.Goals as goal
 
 pub loop-k-init : goal.loop-k-init
 loop-k-init g c =
-    masked_in g.C.Check.DEGREE g.C.Check.LOWER c.args.register c.start.result (bits (4 * c.args.count) c.args.value) c.start.ensures
+    masked_in _ _ _ _ _ c.start.ensures
 
 pub loop-k-preserved : goal.loop-k-preserved
 loop-k-preserved g c =
-    let d = g.C.Check.DEGREE in
-    let l = g.C.Check.LOWER in
-    let r = c.loop-k.state in
     let v = c.args.value in
     let left = 4 * (c.loop-k.k - 1) in
     let nibble = v / 2 ^ left in
-    let next = ap (fed_bits d l r) (bits_split 4 left (4 * c.loop-k.k) v (omega arith)) in
-    let parts = fed_bits_append d l r (bits 4 nibble) (bits left v) g.met.C.Check.below (bits_are_bits 4 nibble) in
+    let next = bits_split 4 left (4 * c.loop-k.k) v (omega arith) in
+    let parts = fed_bits_append g.C.Check.DEGREE g.C.Check.LOWER c.loop-k.state (bits 4 nibble) (bits left v) g.met.C.Check.below (bits_are_bits 4 nibble) in
     (cc, c.feed_nibble-state.ensures.bound)
 
 pub returns : goal.returns
 returns g c =
-    let d = g.C.Check.DEGREE in
-    let l = g.C.Check.LOWER in
-    let r = c.loop-k.state in
-    let within = c.loop-k.invariant.1 in
-    let all : fed_bits d l r (bits (4 * c.loop-k.k) c.args.value) ≡ r =
-    ap (fed_bits d l r) (bits_none c.args.value (4 * c.loop-k.k) (omega arith)) ∙ fed_bits_nil d l r ∙ mod-eq_of_lt within in
-    record { value = sym all ∙ c.loop-k.invariant.0; bound = within }
+    let all = fed_bits_nil g.C.Check.DEGREE g.C.Check.LOWER c.loop-k.state in
+    let none = bits_none c.args.value (4 * c.loop-k.k) (omega arith) in
+    record { value = cc (mod-eq_of_lt c.loop-k.invariant.1); bound = c.loop-k.invariant.1 }

@@ -1,17 +1,15 @@
-use Rattle.std.proofs.Common.{◌-◌, ◌/◌, ◌^◌, sym, ap, ◌∙◌, arith}
+use Rattle.std.proofs.Common.{◌-◌, ◌/◌, ◌^◌, arith}
 use lib.Bits.{and_mask}
 use Rattle.std.proofs.lemmas.Nat.{mod_below, pow_pos}
 use Rattle.frame.specs.Checks.{fed_bits}
-use Rattle.frame.specs.Division.{divided, bits}
 use Rattle.frame.proofs.Steps.{masked, divided_next, divided_none}
 use Rattle.frame.proofs.check.Divisor.feed.Goals as goal
 
 pub loop-k-init : goal.loop-k-init
 loop-k-init c =
-    let is = masked c.args.self.degree c.args.register (omega (arith, c.args.self.most)) in (
-      ap (λ r. divided c.args.self.degree c.args.self.lower r (bits c.args.count c.args.value)) is,
-      rw is (mod_below c.args.register (2 ^ c.args.self.degree) (pow_pos c.args.self.degree)),
-    )
+    let d = c.args.self.degree in
+    let is = masked d c.args.register (omega (arith, c.args.self.most)) in
+    (cc, rw is (mod_below c.args.register (2 ^ d) (pow_pos d)))
 
 pub loop-k-preserved : goal.loop-k-preserved
 loop-k-preserved c =
@@ -23,4 +21,4 @@ pub returns : goal.returns
 unfolding fed_bits
 returns c =
     let all = divided_none c.args.self.degree c.args.self.lower c.loop-k.state c.args.value c.loop-k.k c.loop-k-test.false in
-    record { value = sym all ∙ c.loop-k.invariant.0; bound = c.loop-k.invariant.1 }
+    record { value = cc; bound = c.loop-k.invariant.1 }
