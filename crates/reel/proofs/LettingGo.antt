@@ -59,10 +59,7 @@ module _ (r : Parts) (s : Sound r) (p : ℕ) (new_pairs : List Pair) (changed : 
     few = omega (arith, same_length, s.few);
     shared = rw same_length (s.shared);
     timed = s.timed;
-    short = λ q. ⊎_elim
-        (λ (e : q ≡ p). rw (here q e) (s.short p))
-        (λ (ne : q ≡ p → ⊥). rw (there q ne) (s.short q))
-        (cases_eq q p);
+    short = λ q. let a = here q in let b = there q in let d = cases_eq q p in let t = s.short q in grind arith;
     turned = λ q lq. let v = s.turned p l in ⊎_elim
         (λ (e : q ≡ p). rw (ap (λ (x : Pair). x.ring) (here q e)) (round_within r.share (ring_at r.pairs p).head v.0 (omega arith), freed_fits.0, freed_fits.1))
         (λ (ne : q ≡ p → ⊥). rw (ap (λ (x : Pair). x.ring) (there q ne)) (s.turned q (omega (arith, same_length))))

@@ -44,20 +44,11 @@ module _ (r : Parts) (s : Sound r) (p i b : ℕ) (new_pairs : List Pair) (change
   same_length = pairs_kept r.pairs n.pairs p _ changed
 
   head_kept : (q : ℕ) → (ring_at n.pairs q).head ≡ (ring_at r.pairs q).head
-  head_kept q = ⊎_elim
-      (λ (e : q ≡ p). ap (λ (x : Pair). x.ring.head) (here q e))
-      (λ (ne : q ≡ p → ⊥). ap (λ (x : Pair). x.ring.head) (there q ne))
-      (cases_eq q p)
+  head_kept q = let a = here q in let b = there q in let d = cases_eq q p in grind arith
 
   -- a byte was there before, or is the new one
   which : (q k : ℕ) → k < (ring_at n.pairs q).count → (k < (ring_at r.pairs q).count) ⊎ ((q ≡ p) × (k ≡ (ring_at r.pairs p).count))
-  which q k h = ⊎_elim
-      (λ (e : q ≡ p). ⊎_elim
-      (λ (o : k < (ring_at r.pairs q).count). inl o)
-      (λ (o : (ring_at r.pairs q).count ≤ k). inr (e, omega (arith, ap (λ (x : Pair). x.ring.count) (here q e), ap (λ z. (ring_at r.pairs z).count) e)))
-      (cases_lt k (ring_at r.pairs q).count))
-      (λ (ne : q ≡ p → ⊥). inl (omega (arith, ap (λ (x : Pair). x.ring.count) (there q ne))))
-      (cases_eq q p)
+  which q k h = let a = here q in let b = there q in let d = cases_eq q p in grind arith
 
   old : (q k : ℕ) → q < length r.pairs → k < (ring_at r.pairs q).count → place_at n.places n.pairs r.share q k ≡ place_at r.places r.pairs r.share q k
   old q k lq lk =
@@ -89,14 +80,13 @@ module _ (r : Parts) (s : Sound r) (p i b : ℕ) (new_pairs : List Pair) (change
     few = omega (arith, same_length, s.few);
     shared = rw same_length (omega (arith, s.shared, length-set r.places i (stamped b r.clock)));
     timed = s.timed;
-    short = λ q. ⊎_elim
-        (λ (e : q ≡ p). rw (here q e) (s.short q))
-        (λ (ne : q ≡ p → ⊥). rw (there q ne) (s.short q))
-        (cases_eq q p);
-    turned = λ q lq. let t = s.turned q (omega (arith, same_length)) in ⊎_elim
-        (λ (e : q ≡ p). rw (ap (λ (x : Pair). x.ring) (here q e)) (t.0, omega arith, omega (arith, ap (λ z. (ring_at r.pairs z).used) e)))
-        (λ (ne : q ≡ p → ⊥). rw (ap (λ (x : Pair). x.ring) (there q ne)) t)
-        (cases_eq q p);
+    short = λ q. let a = here q in let b = there q in let d = cases_eq q p in let t = s.short q in grind arith;
+    turned = λ q lq.
+        let a = here q in
+        let b = there q in
+        let d = cases_eq q p in
+        let t = s.turned q (omega (arith, same_length)) in
+        (grind arith, grind arith, grind arith);
     past = λ q k h. past q k (omega (arith, same_length), h.1);
     ordered = λ q j k h.
         let lq : q < length r.pairs = omega (arith, same_length) in
