@@ -1,5 +1,5 @@
 -- A row without the oldest byte of a pair: it is sound, and the others are as they were. Assumes nothing.
-use Rattle.std.proofs.Common.{◌≡◌, ℕ, ◌+◌, ◌-◌, ◌*◌, ◌<◌, ◌≤◌, Bool, List, length, get_or, set, refl, ap, ◌∙◌, ⊎_elim, arith}
+use Rattle.std.proofs.Common.{◌≡◌, ℕ, ◌+◌, ◌-◌, ◌*◌, ◌<◌, ◌≤◌, Bool, List, length, get_or, set, refl, ap, ◌∙◌, arith}
 use Rattle.std.proofs.lemmas.Bool.{cases_eq}
 use Rattle.cable.specs.Calls.{freed, line_after_take}
 use Rattle.cable.specs.Model.{Held, Line, no_held, with_line, numbered}
@@ -7,7 +7,6 @@ use Rattle.cable.proofs.Numbered.{numbered_same, numbered_set, numbered_drop}
 use Rattle.cable.proofs.Shown.{same_models}
 use Rattle.reel.specs.Rings.{no_place, pair_at, ring_at, one_less, place_at, spot}
 use Rattle.reel.specs.Rows.{Parts, held_in, line_of, model_of}
-use Rattle.reel.specs.declared.place.Place.{Place}
 use Rattle.reel.specs.declared.place.Pair.{Pair}
 use Rattle.reel.proofs.Changing.{pair_here, pair_there, pairs_kept}
 use Rattle.reel.proofs.Putting.{line_with}
@@ -44,12 +43,6 @@ module _ (r : Parts) (s : Sound r) (p : ℕ) (new_pairs : List Pair) (changed : 
   other : (q k : ℕ) → (q ≡ p → ⊥) → place_at r.places n.pairs r.share q k ≡ place_at r.places r.pairs r.share q k
   other q k ne = ap (λ (x : Pair). get_or r.places (spot r.share q x.ring.head k) no_place) (there q ne)
 
-  count_here : (q k : ℕ) → q ≡ p → k < (ring_at n.pairs q).count → k + 1 < (ring_at r.pairs p).count
-  count_here q k e h = omega (arith, ap (λ (x : Pair). x.ring.count) (here q e))
-
-  count_there : (q k : ℕ) → (q ≡ p → ⊥) → k < (ring_at n.pairs q).count → k < (ring_at r.pairs q).count
-  count_there q k ne h = omega (arith, ap (λ (x : Pair). x.ring.count) (there q ne))
-
   freed_fits : ((ring_at r.pairs p).count - 1 ≤ freed r.reuse (ring_at r.pairs p).used) × (freed r.reuse (ring_at r.pairs p).used ≤ r.share)
   freed_fits = let t = s.turned p l in grind arith
 
@@ -60,21 +53,34 @@ module _ (r : Parts) (s : Sound r) (p : ℕ) (new_pairs : List Pair) (changed : 
     shared = rw same_length (s.shared);
     timed = s.timed;
     short = λ q. let a = here q in let b = there q in let d = cases_eq q p in let t = s.short q in grind arith;
-    turned = λ q lq. let v = s.turned p l in ⊎_elim
-        (λ (e : q ≡ p). rw (ap (λ (x : Pair). x.ring) (here q e)) (round_within r.share (ring_at r.pairs p).head v.0 (omega arith), freed_fits.0, freed_fits.1))
-        (λ (ne : q ≡ p → ⊥). rw (ap (λ (x : Pair). x.ring) (there q ne)) (s.turned q (omega (arith, same_length))))
-        (cases_eq q p);
-    past = λ q k a. ⊎_elim
-        (λ (e : q ≡ p). let m = count_here q k e a.1 in omega (arith, ap (λ (x : Place). x.tick) (later q k e m), s.past p (k + 1) (l, m)))
-        (λ (ne : q ≡ p → ⊥). omega (arith, ap (λ (x : Place). x.tick) (other q k ne), s.past q k (omega (arith, same_length), count_there q k ne a.1)))
-        (cases_eq q p);
-    ordered = λ q j k a. ⊎_elim
-        (λ (e : q ≡ p).
-        let m = count_here q k e a.2 in
-        let mj : j + 1 < (ring_at r.pairs p).count = omega arith in
-        omega (arith, ap (λ (x : Place). x.tick) (later q k e m), ap (λ (x : Place). x.tick) (later q j e mj), s.ordered p (j + 1) (k + 1) (l, omega arith, m)))
-        (λ (ne : q ≡ p → ⊥). omega (arith, ap (λ (x : Place). x.tick) (other q k ne), ap (λ (x : Place). x.tick) (other q j ne), s.ordered q j k (omega (arith, same_length), a.1, count_there q k ne a.2)))
-        (cases_eq q p);
+    turned = λ q lq.
+        let a = here q in
+        let b = there q in
+        let d = cases_eq q p in
+        let t = s.turned q (omega (arith, same_length)) in
+        let v = s.turned p l in
+        let w = round_within r.share (ring_at r.pairs p).head v.0 in
+        (grind arith, grind (arith, freed_fits), grind (arith, freed_fits));
+    past = λ q k h.
+        let a = here q in
+        let b = there q in
+        let d = cases_eq q p in
+        let m = later q k in
+        let o = other q k in
+        let t = s.past q k in
+        let u = s.past p (k + 1) in
+        grind (arith, same_length);
+    ordered = λ q j k h.
+        let a = here q in
+        let b = there q in
+        let d = cases_eq q p in
+        let m = later q k in
+        let n = later q j in
+        let o = other q k in
+        let e = other q j in
+        let t = s.ordered q j k in
+        let u = s.ordered p (j + 1) (k + 1) in
+        grind (arith, same_length);
   }
 
   pub let_go_model : model_of n ≡ with_line (model_of r) p (line_after_take (line_of r p))

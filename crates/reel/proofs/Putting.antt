@@ -1,8 +1,8 @@
 -- A row after a put: it is sound, and the byte has joined its pair's. Assumes nothing.
-use Rattle.std.proofs.Common.{◌≡◌, ℕ, ◌+◌, ◌<◌, ◌≤◌, Bool, ◌⊎◌, List, [], ◌∷◌, ◌++◌, length, get_or, set, sym, refl, ap, ◌∙◌, inl, inr, ⊎_elim, arith, length-set}
+use Rattle.std.proofs.Common.{◌≡◌, ℕ, ◌<◌, ◌≤◌, Bool, ◌⊎◌, List, [], ◌∷◌, ◌++◌, length, get_or, set, sym, refl, ap, ◌∙◌, arith, length-set}
 use Rattle.std.proofs.lemmas.List.FromFn.{map-range_with_len_more}
 use Rattle.std.proofs.lemmas.List.{get_or-set_same, get_or-set_other}
-use Rattle.std.proofs.lemmas.Bool.{cases_eq, cases_lt}
+use Rattle.std.proofs.lemmas.Bool.{cases_eq}
 use Rattle.cable.specs.Calls.{line_after_put}
 use Rattle.cable.specs.Model.{Held, Line, no_held, with_line, numbered}
 use Rattle.cable.proofs.Numbered.{numbered_same, numbered_set}
@@ -69,10 +69,7 @@ module _ (r : Parts) (s : Sound r) (p i b : ℕ) (new_pairs : List Pair) (change
       ∙ get_or-set_same r.places i (stamped b r.clock) no_place below
 
   past : (q k : ℕ) → (q < length r.pairs) × (k < (ring_at n.pairs q).count) → (place_at n.places n.pairs r.share q k).tick ≤ r.clock
-  past q k h = ⊎_elim
-      (λ (o : k < (ring_at r.pairs q).count). omega (arith, ap (λ (x : Place). x.tick) (old q k h.0 o), s.past q k (h.0, o)))
-      (λ (e : (q ≡ p) × (k ≡ (ring_at r.pairs p).count)). omega (arith, ap (λ (x : Place). x.tick) (new q k e.0 e.1)))
-      (which q k h.1)
+  past q k h = let w = which q k h.1 in let a = old q k h.0 in let b = new q k in let t = s.past q k in grind arith
 
   pub put_sound : Sound n
   put_sound = record {
@@ -90,13 +87,13 @@ module _ (r : Parts) (s : Sound r) (p i b : ℕ) (new_pairs : List Pair) (change
     past = λ q k h. past q k (omega (arith, same_length), h.1);
     ordered = λ q j k h.
         let lq : q < length r.pairs = omega (arith, same_length) in
-        ⊎_elim
-        (λ (o : k < (ring_at r.pairs q).count).
-        let oj : j < (ring_at r.pairs q).count = omega arith in
-        omega (arith, ap (λ (x : Place). x.tick) (old q k lq o), ap (λ (x : Place). x.tick) (old q j lq oj), s.ordered q j k (lq, h.1, o)))
-        (λ (e : (q ≡ p) × (k ≡ (ring_at r.pairs p).count)).
-        omega (arith, ap (λ (x : Place). x.tick) (new q k e.0 e.1), past q j (lq, omega arith)))
-        (which q k h.2);
+        let w = which q k h.2 in
+        let a = old q k lq in
+        let b = old q j lq in
+        let m = new q k in
+        let t = s.ordered q j k in
+        let u = past q j in
+        grind arith;
   }
 
   pub put_model : model_of n ≡ with_line (model_of r) p (line_after_put (line_of r p) b)

@@ -6,7 +6,7 @@ use Rattle.cable.specs.Bounds.{most_pairs, most_ticks}
 use Rattle.cable.specs.Formed.{Formed}
 use Rattle.cable.specs.Model.{Held, Line, no_line, pairs_of, line_at, no_held, held_at}
 use Rattle.cable.proofs.Numbered.{numbered_length, numbered_at, numbered_past}
-use Rattle.reel.specs.Rings.{pair_at, ring_at, place_at, Short, Turned, Past, Ordered}
+use Rattle.reel.specs.Rings.{ring_at, place_at, Short, Turned, Past, Ordered}
 use Rattle.reel.specs.Rows.{Parts, parts_of, held_in, line_of, model_of}
 use Rattle.reel.specs.declared.row.Row.{Row}
 

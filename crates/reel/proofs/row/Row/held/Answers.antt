@@ -1,4 +1,4 @@
-use Rattle.std.proofs.Common.{◌∙◌, arith}
+use Rattle.std.proofs.Common.{◌∙◌}
 use Rattle.reel.specs.Rows.{parts_of}
 use Rattle.reel.proofs.Looking.{held_none, held_some}
 use Rattle.reel.proofs.row.Row.held.Goals as goal

@@ -1,4 +1,4 @@
-use Rattle.std.proofs.Common.{◌≡◌, ℕ, ◌*◌, ◌/◌, ◌≤◌, List, length, slice_index, ap, ◌∙◌, arith, rules}
+use Rattle.std.proofs.Common.{ℕ, ◌*◌, ◌/◌, ◌≤◌, List, length, slice_index, ap, ◌∙◌, arith, rules}
 use Rattle.cable.specs.Model.{Line, numbered}
 use Rattle.cable.proofs.Shown.{same_models}
 use Rattle.reel.specs.Rows.{Parts, new_line}
