@@ -1,3 +1,5 @@
+pub mod Changing
+pub mod Laying
 pub mod LettingGo
 pub mod Looking
 pub mod Putting

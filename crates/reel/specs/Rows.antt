@@ -3,17 +3,16 @@ use Rattle.std.specs.Prelude.{ℕ, ◌-◌, ◌/◌, Bool, cond, ◌&&◌, List,
 use Rattle.cable.specs.Bounds.{pairs_counted, ticks_counted}
 use Rattle.cable.specs.Calls.{line_after_put, line_after_tick, line_after_take}
 use Rattle.cable.specs.Model.{Held, Line, Model, line_at, held_at, with_line, numbered}
-use Rattle.reel.specs.Rings.{ring_at, place_at}
+use Rattle.reel.specs.Rings.{pair_at, ring_at, place_at}
+use Rattle.reel.specs.declared.place.Carried.{Carried}
 use Rattle.reel.specs.declared.place.Place.{Place}
-use Rattle.reel.specs.declared.place.Ring.{Ring}
+use Rattle.reel.specs.declared.place.Pair.{Pair}
 use Rattle.reel.specs.declared.row.Row.{Row}
 
 -- a row by its parts, and whether its places are used again
 pub record Parts : Type 0 where
   pub places : List Place
-  pub rings : List Ring
-  pub delays : List ℕ
-  pub pairs : ℕ
+  pub pairs : List Pair
   pub share : ℕ
   pub clock : ℕ
   pub left : ℕ
@@ -22,9 +21,7 @@ pub record Parts : Type 0 where
 abbrev pub parts_of : {P : Type 0} → Bool → Row P → Parts
 parts_of reuse row = record {
   places = vec_items row.places;
-  rings = row.rings;
-  delays = row.delays;
-  pairs = row.pairs;
+  pairs = row.pairs.items;
   share = row.share;
   clock = row.clock;
   left = row.left;
@@ -37,26 +34,28 @@ held_in clock place = record { byte = place.byte; age = clock - place.tick }
 
 -- the place of the k-th byte of pair p, or none
 abbrev pub nth_of : Parts → ℕ → ℕ → Option Place
-nth_of r p k = cond (nat_lt p r.pairs && nat_lt k (ring_at r.rings p).count) (Some (place_at r.places r.rings r.share p k)) None
+nth_of r p k = cond (nat_lt p (length r.pairs) && nat_lt k (ring_at r.pairs p).count) (Some (place_at r.places r.pairs r.share p k)) None
 
 abbrev pub line_of : Parts → ℕ → Line
 line_of r p = record {
-  delay = slice_index r.delays p;
+  delay = (pair_at r.pairs p).delay;
   places = r.share;
-  used = (ring_at r.rings p).used;
+  used = (ring_at r.pairs p).used;
   reuse = r.reuse;
-  held = numbered (ring_at r.rings p).count (λ k. held_in r.clock (place_at r.places r.rings r.share p k));
+  held = numbered (ring_at r.pairs p).count (λ k. held_in r.clock (place_at r.places r.pairs r.share p k));
 }
 
 abbrev pub model_of : Parts → Model
-model_of r = record { left = r.left; lines = numbered r.pairs (line_of r) }
+model_of r = record { left = r.left; lines = numbered (length r.pairs) (line_of r) }
 
 abbrev pub row_model : {P : Type 0} → Bool → Row P → Model
 row_model reuse row = model_of (parts_of reuse row)
 
--- the age of the k-th byte of pair p, or none where fewer are held
-abbrev pub age_said : Model → ℕ → ℕ → Option ℕ
-age_said m p k = cond (nat_lt k (length (line_at m p).held)) (Some (held_at (line_at m p) k).age) None
+-- the k-th byte of pair p and its age, or none where fewer are held
+abbrev pub held_said : Model → ℕ → ℕ → Option Carried
+held_said m p k =
+    let h = held_at (line_at m p) k in
+    cond (nat_lt k (length (line_at m p).held)) (Some (record { byte = h.byte; age = h.age })) None
 
 -- a cable once one tick has passed
 abbrev pub one_tick_on : Model → Model

@@ -12,14 +12,14 @@ use Rattle.reel.specs.declared.row.Row.{Row}
 
 -- what is always so of a row
 pub record Sound (r : Parts) : Type 0 where
-  pub some : 1 ≤ r.pairs
-  pub few : r.pairs ≤ most_pairs
-  pub shared : r.pairs * r.share ≤ length r.places
+  pub some : 1 ≤ length r.pairs
+  pub few : length r.pairs ≤ most_pairs
+  pub shared : length r.pairs * r.share ≤ length r.places
   pub timed : r.clock + r.left ≤ most_ticks
-  pub short : Short r.delays
-  pub turned : Turned r.rings r.pairs r.share
-  pub past : Past r.places r.rings r.pairs r.share r.clock
-  pub ordered : Ordered r.places r.rings r.pairs r.share
+  pub short : Short r.pairs
+  pub turned : Turned r.pairs r.share
+  pub past : Past r.places r.pairs r.share r.clock
+  pub ordered : Ordered r.places r.pairs r.share
 
 pub sound : {P : Type 0} (reuse : Bool) (row : Row P) → Sound (parts_of reuse row)
 sound reuse row = record {
@@ -34,37 +34,37 @@ sound reuse row = record {
 }
 
 module _ (r : Parts) where
-  pub row_pairs : pairs_of (model_of r) ≡ r.pairs
-  row_pairs = numbered_length r.pairs (line_of r)
+  pub row_pairs : pairs_of (model_of r) ≡ length r.pairs
+  row_pairs = numbered_length (length r.pairs) (line_of r)
 
-  pub row_line : (p : ℕ) → p < r.pairs → line_at (model_of r) p ≡ line_of r p
-  row_line p h = numbered_at r.pairs (line_of r) p no_line h
+  pub row_line : (p : ℕ) → p < length r.pairs → line_at (model_of r) p ≡ line_of r p
+  row_line p h = numbered_at (length r.pairs) (line_of r) p no_line h
 
-  pub row_absent : (p : ℕ) → r.pairs ≤ p → line_at (model_of r) p ≡ no_line
-  row_absent p h = numbered_past r.pairs (line_of r) p no_line h
+  pub row_absent : (p : ℕ) → length r.pairs ≤ p → line_at (model_of r) p ≡ no_line
+  row_absent p h = numbered_past (length r.pairs) (line_of r) p no_line h
 
   -- whether a pair is there, and what is shown of it then
-  pub has_counted : (p : ℕ) → nat_lt p r.pairs ≡ nat_lt p (pairs_of (model_of r))
+  pub has_counted : (p : ℕ) → nat_lt p (length r.pairs) ≡ nat_lt p (pairs_of (model_of r))
   has_counted p = ap (ltb p) (sym row_pairs)
 
-  pub has_shown : (p : ℕ) → line_at (model_of r) p ≡ cond (nat_lt p r.pairs) (line_of r p) no_line
+  pub has_shown : (p : ℕ) → line_at (model_of r) p ≡ cond (nat_lt p (length r.pairs)) (line_of r p) no_line
   has_shown p = ⊎_elim
-      (λ (l : p < r.pairs). row_line p l ∙ sym (cond-true _ _ _ (lt-ltb p r.pairs l)))
-      (λ (l : r.pairs ≤ p). row_absent p l ∙ sym (cond-false _ _ _ (le-ltb p r.pairs l)))
-      (cases_lt p r.pairs)
+      (λ (l : p < length r.pairs). row_line p l ∙ sym (cond-true _ _ _ (lt-ltb p (length r.pairs) l)))
+      (λ (l : length r.pairs ≤ p). row_absent p l ∙ sym (cond-false _ _ _ (le-ltb p (length r.pairs) l)))
+      (cases_lt p (length r.pairs))
 
-  line_length : (p : ℕ) → length (line_of r p).held ≡ (ring_at r.rings p).count
-  line_length p = numbered_length (ring_at r.rings p).count (λ k. held_in r.clock (place_at r.places r.rings r.share p k))
+  line_length : (p : ℕ) → length (line_of r p).held ≡ (ring_at r.pairs p).count
+  line_length p = numbered_length (ring_at r.pairs p).count (λ k. held_in r.clock (place_at r.places r.pairs r.share p k))
 
-  line_held : (p k : ℕ) → k < (ring_at r.rings p).count → held_at (line_of r p) k ≡ held_in r.clock (place_at r.places r.rings r.share p k)
+  line_held : (p k : ℕ) → k < (ring_at r.pairs p).count → held_at (line_of r p) k ≡ held_in r.clock (place_at r.places r.pairs r.share p k)
   line_held p k h =
-      numbered_at (ring_at r.rings p).count (λ k. held_in r.clock (place_at r.places r.rings r.share p k)) k no_held h
+      numbered_at (ring_at r.pairs p).count (λ k. held_in r.clock (place_at r.places r.pairs r.share p k)) k no_held h
 
-  pub row_length : (p : ℕ) → p < r.pairs → length (line_at (model_of r) p).held ≡ (ring_at r.rings p).count
+  pub row_length : (p : ℕ) → p < length r.pairs → length (line_at (model_of r) p).held ≡ (ring_at r.pairs p).count
   row_length p l = ap (λ (x : Line). length x.held) (row_line p l) ∙ line_length p
 
-  pub row_held : (p k : ℕ) → p < r.pairs → k < (ring_at r.rings p).count
-      → held_at (line_at (model_of r) p) k ≡ held_in r.clock (place_at r.places r.rings r.share p k)
+  pub row_held : (p k : ℕ) → p < length r.pairs → k < (ring_at r.pairs p).count
+      → held_at (line_at (model_of r) p) k ≡ held_in r.clock (place_at r.places r.pairs r.share p k)
   row_held p k l h = ap (λ (x : Line). held_at x k) (row_line p l) ∙ line_held p k h
 
   pub row_formed : Sound r → Formed (model_of r)
@@ -73,16 +73,16 @@ module _ (r : Parts) where
     few = omega (arith, row_pairs, s.few);
     timed = omega (arith, s.timed);
     each = λ p. ⊎_elim
-        (λ (l : p < r.pairs). rw (row_line p l) (record {
+        (λ (l : p < length r.pairs). rw (row_line p l) (record {
           short = s.short p;
           placed = omega (arith, line_length p, (s.turned p l).1);
           within = (s.turned p l).2;
           falls = λ j k le h.
-              let hk : k < (ring_at r.rings p).count = omega (arith, line_length p) in
-              let hj : j < (ring_at r.rings p).count = omega arith in
+              let hk : k < (ring_at r.pairs p).count = omega (arith, line_length p) in
+              let hj : j < (ring_at r.pairs p).count = omega arith in
               omega (arith, ap (λ (x : Held). x.age) (line_held p k hk), ap (λ (x : Held). x.age) (line_held p j hj), s.ordered p j k (l, le, hk));
         }))
-        (λ (l : r.pairs ≤ p). rw (row_absent p l)
+        (λ (l : length r.pairs ≤ p). rw (row_absent p l)
         (record { short = omega arith; placed = omega arith; within = omega arith; falls = λ j k le h. omega arith }))
-        (cases_lt p r.pairs);
+        (cases_lt p (length r.pairs));
   }

@@ -1,53 +1,27 @@
 // A row of places as a cable.
-ghost use Rattle.std.specs.Prelude.{◌≡◌, ◌+◌, ◌*◌, ◌^◌, ◌<◌, ◌≤◌, true, IfSome, if◌then◌else◌, vec_len, nat_lt};
-ghost use Rattle.cable.specs.Bounds.{most_ticks};
-ghost use Rattle.cable.specs.Calls.{has_one};
-ghost use Rattle.cable.specs.Model.{pairs_of, no_line, line_at, held_at};
-ghost use Rattle.reel.specs.Rings.{ring_at, round, spot};
-ghost use Rattle.reel.specs.Rows.{laid, line_of, nth_of, age_said, one_tick_on, parts_of, row_model, with_newest, without_oldest};
+ghost use Rattle.std.specs.Prelude.{◌≡◌, ◌+◌, ◌*◌, ◌^◌, ◌<◌, ◌≤◌, IfSome, is_some, if◌then◌else◌, length, vec_len, nat_lt, slice_get, slice_index};
+ghost use Rattle.cable.specs.Bounds.{most_pairs, most_ticks};
+ghost use Rattle.cable.specs.Model.{pairs_of, no_line, line_at, numbered};
+ghost use Rattle.reel.specs.Rings.{empty_pair, pair_at, ring_at, spot};
+ghost use Rattle.reel.specs.Rows.{held_said, laid, line_of, nth_of, one_tick_on, parts_of, row_model, with_newest, without_oldest};
 ghost use Rattle.reel.specs.Shows.{sound, row_formed};
 
 use super::Row;
-use crate::place::{Place, Ring};
+use crate::place::{Carried, Pair, Place};
 use crate::reuse::Reuse;
+use arrayvec::ArrayVec;
 use cable::refusal::CableRefusal;
 use cable::{Cable, MOST_PAIRS, MOST_TICKS};
 use std::marker::PhantomData;
 
-// A ring that holds nothing.
-const EMPTY: Ring = Ring {
-    head: 0,
-    count: 0,
-    used: 0,
-};
-
-// Where the k-th place from `head` on stands in the row, for `pair`.
-fn spot_of(share: usize, pair: usize, head: usize, k: usize) -> usize
-    requires head { head ≤ share }
-    requires within { k < share }
-    requires fits { (pair + 1) * share < 2 ^ 64 }
-    ensures value { result ≡ spot share pair head k }
-    ensures below { result < (pair + 1) * share }
+// So many pairs that hold nothing, each with its delay.
+fn empty_pairs(count: usize, delays: [u16; MOST_PAIRS]) -> ArrayVec<Pair, MOST_PAIRS>
+    requires { count ≤ most_pairs }
+    ensures { result.items ≡ numbered count (λ p. empty_pair (slice_index delays p)) }
 {
-    let start = pair * share;
-    if k < share - head {
-        start + (head + k)
-    } else {
-        start + (k - (share - head))
-    }
-}
-
-// The place after `head`, in a ring of `share` places.
-fn next_of(share: usize, head: usize) -> usize
-    requires head { head ≤ share }
-    requires some { 0 < share }
-    ensures { result ≡ round share head 1 }
-{
-    if head < share - 1 {
-        head + 1
-    } else {
-        head - (share - 1)
-    }
+    let mut pairs = ArrayVec::from(delays.map(Pair::new));
+    pairs.truncate(count);
+    pairs
 }
 
 impl<P: Reuse> Row<P> {
@@ -56,13 +30,11 @@ impl<P: Reuse> Row<P> {
     pub fn new(row: Vec<Place>, pairs: usize, ticks: u64, delays: [u16; MOST_PAIRS]) -> Row<P>
         ensures { row_model P.Reuse.reused result ≡ laid P.Reuse.reused (vec_len row) pairs ticks delays }
     {
-        let pairs = pairs.clamp(1, MOST_PAIRS);
-        let share = row.len() / pairs;
+        let count = pairs.clamp(1, MOST_PAIRS);
+        let share = row.len() / count;
         Row {
             places: row,
-            rings: [EMPTY; MOST_PAIRS],
-            delays,
-            pairs,
+            pairs: empty_pairs(count, delays),
             share,
             clock: 0,
             left: ticks.min(MOST_TICKS),
@@ -70,60 +42,47 @@ impl<P: Reuse> Row<P> {
         }
     }
 
-    // Whether there is such a pair, and what the cable then shows of it.
-    fn has(&self, pair: usize) -> bool
-        ensures test { result ≡ nat_lt pair self.now.pairs }
-        ensures counted { result ≡ nat_lt pair (pairs_of (row_model P.Reuse.reused self.now)) }
-        ensures shows { line_at (row_model P.Reuse.reused self.now) pair ≡ (if result then line_of (parts_of P.Reuse.reused self.now) pair else no_line) }
+    // The pair of this number, if there is one, and what the cable then shows of it.
+    fn find(&self, pair: usize) -> Option<Pair>
+        ensures value { result ≡ slice_get self.now.pairs.items pair }
+        ensures counted { is_some result ≡ nat_lt pair (pairs_of (row_model P.Reuse.reused self.now)) }
+        ensures shows { line_at (row_model P.Reuse.reused self.now) pair ≡ (if is_some result then line_of (parts_of P.Reuse.reused self.now) pair else no_line) }
+        ensures found { IfSome result (λ found. (pair < length self.now.pairs.items) × (found ≡ pair_at self.now.pairs.items pair)) }
     {
-        pair < self.pairs
+        self.pairs.get(pair).copied()
+    }
+
+    // Where the place of the k-th byte of a pair stands in the row.
+    fn spot(&self, pair: usize, k: usize) -> usize
+        requires there { pair < length self.now.pairs.items }
+        requires within { k < self.now.share }
+        ensures value { result ≡ spot self.now.share pair (ring_at self.now.pairs.items pair).head k }
+        ensures below { result < vec_len self.now.places }
+    {
+        pair * self.share + self.pairs[pair].ring.place(self.share, k)
     }
 
     // The place of the k-th byte that a pair holds.
     fn nth(&self, pair: usize, k: usize) -> Option<Place>
         ensures { result ≡ nth_of (parts_of P.Reuse.reused self.now) pair k }
     {
-        if pair >= self.pairs {
-            return None;
-        }
-        let Ring { head, count, .. } = self.rings[pair];
-        if k >= count {
-            return None;
-        }
-        Some(self.places[spot_of(self.share, pair, head, k)])
-    }
-
-    // The age of the k-th byte that a pair holds.
-    fn age(&self, pair: usize, k: usize) -> Option<u64>
-        ensures value { result ≡ age_said (row_model P.Reuse.reused self.now) pair k }
-        ensures bound { IfSome result (λ age. age ≤ most_ticks) }
-    {
-        match self.nth(pair, k) {
-            Some(place) => Some(self.clock - place.tick),
-            None => None,
+        if k < self.pairs.get(pair)?.ring.count {
+            Some(self.places[self.spot(pair, k)])
+        } else {
+            None
         }
     }
 
-    // Whether the oldest byte that a pair holds has arrived.
-    fn has_arrived(&self, pair: usize) -> bool
-        ensures value { result ≡ has_one (line_at (row_model P.Reuse.reused self.now) pair) }
-        ensures there { result ≡ true → pair < self.now.pairs }
-        ensures some { result ≡ true → 0 < (ring_at self.now.rings pair).count }
+    // The k-th byte that a pair holds, and its age.
+    fn held(&self, pair: usize, k: usize) -> Option<Carried>
+        ensures value { result ≡ held_said (row_model P.Reuse.reused self.now) pair k }
+        ensures bound { IfSome result (λ carried. carried.age ≤ most_ticks) }
     {
-        match self.age(pair, 0) {
-            Some(age) => age >= u64::from(self.delay(pair)),
-            None => false,
-        }
-    }
-
-    // The oldest byte that a pair holds, 0 where it holds none.
-    fn oldest(&self, pair: usize) -> u8
-        ensures { result ≡ (held_at (line_at (row_model P.Reuse.reused self.now) pair) 0).byte }
-    {
-        match self.nth(pair, 0) {
-            Some(place) => place.byte,
-            None => 0,
-        }
+        let Place { byte, tick } = self.nth(pair, k)?;
+        Some(Carried {
+            byte,
+            age: self.clock - tick,
+        })
     }
 
     // One tick passes.
@@ -137,36 +96,27 @@ impl<P: Reuse> Row<P> {
 
     // Puts a byte behind those that a pair holds.
     fn store(&mut self, pair: usize, byte: u8)
-        requires there { pair < self.old.pairs }
-        requires room { (ring_at self.old.rings pair).used < self.old.share }
+        requires there { pair < length self.old.pairs.items }
+        requires room { (ring_at self.old.pairs.items pair).used < self.old.share }
         ensures { row_model P.Reuse.reused self.new ≡ with_newest (row_model P.Reuse.reused self.old) pair byte }
     {
-        let Ring { head, count, used } = self.rings[pair];
-        let spot = spot_of(self.share, pair, head, count);
+        let ring = self.pairs[pair].ring;
+        let spot = self.spot(pair, ring.count);
         self.places[spot] = Place {
             byte,
             tick: self.clock,
         };
-        self.rings[pair] = Ring {
-            head,
-            count: count + 1,
-            used: used + 1,
-        };
+        self.pairs[pair].ring = ring.with_newest();
     }
 
     // Lets go of the oldest byte that a pair holds.
     fn let_go(&mut self, pair: usize)
-        requires there { pair < self.old.pairs }
-        requires some { 0 < (ring_at self.old.rings pair).count }
+        requires there { pair < length self.old.pairs.items }
+        requires some { 1 ≤ (ring_at self.old.pairs.items pair).count }
         ensures { row_model P.Reuse.reused self.new ≡ without_oldest (row_model P.Reuse.reused self.old) pair }
     {
-        let Ring { head, count, used } = self.rings[pair];
-        let freed = usize::from(P::is_reused());
-        self.rings[pair] = Ring {
-            head: next_of(self.share, head),
-            count: count - 1,
-            used: used - freed,
-        };
+        let ring = self.pairs[pair].ring;
+        self.pairs[pair].ring = ring.without_oldest(self.share, P::is_reused());
     }
 }
 
@@ -176,10 +126,8 @@ impl<P: Reuse> Cable for Row<P> {
     ghost formed = { λ c. row_formed (parts_of P.Reuse.reused c) (sound P.Reuse.reused c) };
 
     fn put(&mut self, pair: usize, byte: u8) -> Result<(), CableRefusal> {
-        if !self.has(pair) {
-            return Err(CableRefusal::PairAbsent);
-        }
-        if self.rings[pair].used >= self.share {
+        let found = self.find(pair).ok_or(CableRefusal::PairAbsent)?;
+        if found.ring.used >= self.share {
             return Err(CableRefusal::NoPlace(pair));
         }
         self.store(pair, byte);
@@ -195,31 +143,23 @@ impl<P: Reuse> Cable for Row<P> {
     }
 
     fn take(&mut self, pair: usize) -> Option<u8> {
-        if !self.has_arrived(pair) {
-            return None;
-        }
-        let byte = self.oldest(pair);
+        let byte = self.peek(pair)?;
         self.let_go(pair);
         Some(byte)
     }
 
     fn peek(&self, pair: usize) -> Option<u8> {
-        if self.has_arrived(pair) {
-            Some(self.oldest(pair))
-        } else {
-            None
-        }
+        let Carried { byte, age } = self.held(pair, 0)?;
+        (age >= u64::from(self.delay(pair))).then_some(byte)
     }
 
     fn since(&self, pair: usize, k: usize) -> Option<i64> {
-        match self.age(pair, k) {
-            Some(age) => Some(age as i64 - i64::from(self.delay(pair))),
-            None => None,
-        }
+        let age = self.held(pair, k)?.age;
+        Some(age as i64 - i64::from(self.delay(pair)))
     }
 
     fn pairs(&self) -> usize {
-        self.pairs
+        self.pairs.len()
     }
 
     fn left(&self) -> u64 {
@@ -227,14 +167,11 @@ impl<P: Reuse> Cable for Row<P> {
     }
 
     fn free(&self, pair: usize) -> usize {
-        if self.has(pair) {
-            self.share - self.rings[pair].used
-        } else {
-            0
-        }
+        self.find(pair)
+            .map_or(0, |found| self.share - found.ring.used)
     }
 
     fn delay(&self, pair: usize) -> u16 {
-        if self.has(pair) { self.delays[pair] } else { 0 }
+        self.find(pair).map_or(0, |found| found.delay)
     }
 }
