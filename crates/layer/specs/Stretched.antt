@@ -40,7 +40,7 @@ module _ (xs : List ℕ) (m : Model) where
       (λ (t : has_tick m ≡ false). ap (stretched xs) (cond-false _ _ _ t) ∙ sym (cond-false _ _ _ t))
       (cases_Bool (has_tick m))
 
-  pub stretched_held : (p : ℕ) → (line_at (stretched xs m) p).held ≡ (line_at m p).held
+  stretched_held : (p : ℕ) → (line_at (stretched xs m) p).held ≡ (line_at m p).held
   stretched_held p = passed_same (stretch_passes p) (λ l. l.held) (λ _. refl)
 
   -- a since and its delay make the age, inside and outside
