@@ -1,7 +1,6 @@
 // A cable with longer delays.
-ghost use Rattle.std.specs.Prelude.{◌≡◌, true, slice_index};
-ghost use Rattle.cable.specs.Calls.{has_one, delay_of};
-ghost use Rattle.cable.specs.Model.{line_at};
+ghost use Rattle.std.specs.Prelude.{◌≡◌, slice_index};
+ghost use Rattle.cable.specs.Calls.{delay_of};
 ghost use Rattle.layer.specs.Stretch.{together, stretched, stretch_model};
 ghost use Rattle.layer.specs.Stretched.{stretched_formed};
 
