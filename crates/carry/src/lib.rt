@@ -14,16 +14,17 @@ use reel::place::Place;
 use std::alloc::{AllocError, Global};
 
 /// What the exported functions answer where there is no memory for a cable.
+// The C interface needs a number here; only the exported functions turn an error into it.
 pub const NO_MEMORY: u64 = u64::MAX;
 
 // A sum with what was taken.
 fn mix(sum: u32, taken: Option<u8>) -> u32
     ensures { result ≡ mixed sum taken }
 {
-    match taken {
-        Some(byte) => ((u64::from(sum) * 31 + u64::from(byte)) % (1 << 32)) as u32,
-        None => sum,
-    }
+    taken.map_or(
+        sum,
+        |byte| sum.wrapping_mul(31).wrapping_add(u32::from(byte)),
+    )
 }
 
 // Puts a byte on a pair, lets a tick pass after the last pair, and takes from the pair.
@@ -63,10 +64,10 @@ fn reel_of(heap: Global, pairs: usize, places: u16, delay: u16) -> Result<Reel, 
 pub extern "C" fn carry_through_reel(heap: Global, bytes: &[u8], places: u16, delay: u16) -> u64
     ensures { SumOr result (carried_sum 0 (reel_laid most_pairs places delay) 0 bytes.now) }
 {
-    match reel_of(heap, MOST_PAIRS, places, delay) {
-        Ok(mut reel) => u64::from(carry(&mut reel, bytes)),
-        Err(_) => NO_MEMORY,
-    }
+    reel_of(heap, MOST_PAIRS, places, delay).map_or(
+        NO_MEMORY,
+        |mut reel| u64::from(carry(&mut reel, bytes)),
+    )
 }
 
 /// The same through a stretch over a joint over two reels of four pairs.
@@ -80,6 +81,7 @@ pub extern "C" fn carry_through_pile(
 ) -> u64
     ensures { SumOr result (carried_sum 0 (pile_laid places delay extra) 0 bytes.now) }
 {
+    // Tried: a function that makes the pile by `?` and gives a `Result`; the benchmark's pile is then some 7% slower.
     let Ok(first) = reel_of(heap, MOST_PAIRS / 2, places, delay) else {
         return NO_MEMORY;
     };

@@ -3,6 +3,7 @@ ghost use Rattle.std.specs.Prelude.{◌≡◌, slice_index};
 ghost use Rattle.layer.specs.Stretch.{sums_of, OneStretch};
 
 use cable::MOST_PAIRS;
+use std::array;
 
 /// The extra delay of each pair, in ticks.
 #[derive(Clone, Copy)]
@@ -19,10 +20,7 @@ impl Extras {
     pub fn at(&self, pair: usize) -> u16
         ensures { result ≡ slice_index self.now.0 pair }
     {
-        match self.0.get(pair) {
-            Some(extra) => *extra,
-            None => 0,
-        }
+        self.0.get(pair).copied().unwrap_or(0)
     }
 
     /// The sums of two rows of extras, each at most the longest delay: what a stretch of a stretch comes to.
@@ -30,10 +28,6 @@ impl Extras {
         ensures sums { result.0 ≡ sums_of self.0 other.0 }
         ensures one_stretch { OneStretch self.0 other.0 result.0 }
     {
-        let mut sums = [0; MOST_PAIRS];
-        for (pair, sum) in sums.iter_mut().enumerate() {
-            *sum = self.at(pair).saturating_add(other.at(pair));
-        }
-        Extras(sums)
+        Extras(array::from_fn(|pair| { self.at(pair).saturating_add(other.at(pair)) }))
     }
 }

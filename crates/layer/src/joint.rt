@@ -2,7 +2,7 @@
 ghost use Rattle.std.specs.Prelude.{◌≡◌};
 ghost use Rattle.cable.specs.Model.{pairs_of, line_at};
 ghost use Rattle.layer.specs.Joint.{side_by_side, joint_model, side_of, shown_at, told_of};
-ghost use Rattle.layer.specs.Sides.{joint_formed};
+ghost use Rattle.layer.specs.Sides.{PassesTo, joint_formed};
 
 use cable::refusal::CableRefusal;
 use cable::{Cable, MOST_PAIRS};
@@ -20,17 +20,41 @@ pub struct Joint<K, L> {
 enum Side {
     First(usize),
     Second(usize),
-    Past,
+}
+
+impl Side {
+    // The side of a pair of a joint whose first side has so many pairs; none where the pair cannot be reached.
+    fn of(split: usize, pair: usize) -> Option<Side>
+        ensures { result ≡ side_of split pair }
+    {
+        if pair < split {
+            Some(Side::First(pair))
+        } else if pair < MOST_PAIRS {
+            Some(Side::Second(pair - split))
+        } else {
+            None
+        }
+    }
+}
+
+// Calls a method of the cable on a side of a joint, by the pair's number there.
+macro_rules! on_side {
+    ($joint:expr, $side:expr, $call:ident($($value:expr),*)) => {
+        match $side {
+            Side::First(at) => $joint.first.$call(at $(, $value)*),
+            Side::Second(at) => $joint.second.$call(at $(, $value)*),
+        }
+    };
 }
 
 // The answer of a side to a put, told of the joint's pair.
 fn told_of(pair: usize, answer: Result<(), CableRefusal>) -> Result<(), CableRefusal>
     ensures { result ≡ told_of pair answer }
 {
-    match answer {
-        Err(CableRefusal::NoPlace(_)) => Err(CableRefusal::NoPlace(pair)),
-        _ => answer,
-    }
+    answer.map_err(|refusal| match refusal {
+        CableRefusal::NoPlace(_) => CableRefusal::NoPlace(pair),
+        other => other,
+    })
 }
 
 impl<K: Cable, L: Cable> Joint<K, L> {
@@ -42,18 +66,12 @@ impl<K: Cable, L: Cable> Joint<K, L> {
     }
 
     // Where a pair lies: the joint shows of it what that side does.
-    fn side(&self, pair: usize) -> Side
+    fn side(&self, pair: usize) -> Option<Side>
         ensures value { result ≡ side_of (pairs_of (K.Cable.model self.now.first)) pair }
         ensures shows { line_at (joint_model K.Cable.model L.Cable.model self.now) pair ≡ shown_at (K.Cable.model self.now.first) (L.Cable.model self.now.second) result }
+        ensures passes { PassesTo (K.Cable.model self.now.first) (L.Cable.model self.now.second) pair result }
     {
-        let split = self.first.pairs();
-        if pair < split {
-            Side::First(pair)
-        } else if pair < MOST_PAIRS {
-            Side::Second(pair - split)
-        } else {
-            Side::Past
-        }
+        Side::of(self.first.pairs(), pair)
     }
 }
 
@@ -65,11 +83,8 @@ impl<K: Cable, L: Cable> Cable for Joint<K, L> {
         (K.Cable.formed j.first) (L.Cable.formed j.second) };
 
     fn put(&mut self, pair: usize, byte: u8) -> Result<(), CableRefusal> {
-        match self.side(pair) {
-            Side::First(at) => told_of(pair, self.first.put(at, byte)),
-            Side::Second(at) => told_of(pair, self.second.put(at, byte)),
-            Side::Past => Err(CableRefusal::PairAbsent),
-        }
+        let side = self.side(pair).ok_or(CableRefusal::PairAbsent)?;
+        told_of(pair, on_side!(self, side, put(byte)))
     }
 
     fn tick(&mut self) -> Result<(), CableRefusal> {
@@ -81,27 +96,15 @@ impl<K: Cable, L: Cable> Cable for Joint<K, L> {
     }
 
     fn take(&mut self, pair: usize) -> Option<u8> {
-        match self.side(pair) {
-            Side::First(at) => self.first.take(at),
-            Side::Second(at) => self.second.take(at),
-            Side::Past => None,
-        }
+        on_side!(self, self.side(pair)?, take())
     }
 
     fn peek(&self, pair: usize) -> Option<u8> {
-        match self.side(pair) {
-            Side::First(at) => self.first.peek(at),
-            Side::Second(at) => self.second.peek(at),
-            Side::Past => None,
-        }
+        on_side!(self, self.side(pair)?, peek())
     }
 
     fn since(&self, pair: usize, k: usize) -> Option<i64> {
-        match self.side(pair) {
-            Side::First(at) => self.first.since(at, k),
-            Side::Second(at) => self.second.since(at, k),
-            Side::Past => None,
-        }
+        on_side!(self, self.side(pair)?, since(k))
     }
 
     fn pairs(&self) -> usize {
@@ -113,18 +116,12 @@ impl<K: Cable, L: Cable> Cable for Joint<K, L> {
     }
 
     fn free(&self, pair: usize) -> usize {
-        match self.side(pair) {
-            Side::First(at) => self.first.free(at),
-            Side::Second(at) => self.second.free(at),
-            Side::Past => 0,
-        }
+        self.side(pair)
+            .map_or(0, |side| on_side!(self, side, free()))
     }
 
     fn delay(&self, pair: usize) -> u16 {
-        match self.side(pair) {
-            Side::First(at) => self.first.delay(at),
-            Side::Second(at) => self.second.delay(at),
-            Side::Past => 0,
-        }
+        self.side(pair)
+            .map_or(0, |side| on_side!(self, side, delay()))
     }
 }

@@ -1,6 +1,7 @@
 // A cable with longer delays.
-ghost use Rattle.std.specs.Prelude.{◌≡◌};
-ghost use Rattle.layer.specs.Stretch.{stretched, stretch_model};
+ghost use Rattle.std.specs.Prelude.{◌≡◌, slice_index};
+ghost use Rattle.cable.specs.Calls.{delay_of};
+ghost use Rattle.layer.specs.Stretch.{together, stretched, stretch_model};
 ghost use Rattle.layer.specs.Stretched.{stretched_formed};
 
 use crate::extras::Extras;
@@ -23,6 +24,13 @@ impl<K: Cable> Stretch<K> {
             inner,
             extras: Extras::new(extras),
         }
+    }
+
+    // A delay with the extra of a pair.
+    fn longer(&self, pair: usize, delay: u16) -> u16
+        ensures { result ≡ together delay (slice_index self.now.extras.0 pair) }
+    {
+        delay.saturating_add(self.extras.at(pair))
     }
 }
 
@@ -57,26 +65,25 @@ impl<K: Cable> Cable for Stretch<K> {
     }
 
     fn take(&mut self, pair: usize) -> Option<u8> {
-        match self.since(pair, 0) {
-            Some(since) if since >= 0 => self.inner.take(pair),
-            _ => None,
+        if self.since(pair, 0)? < 0 {
+            return None;
         }
+        self.inner.take(pair)
     }
 
     fn peek(&self, pair: usize) -> Option<u8> {
-        match self.since(pair, 0) {
-            Some(since) if since >= 0 => self.inner.peek(pair),
-            _ => None,
+        if self.since(pair, 0)? < 0 {
+            return None;
         }
+        self.inner.peek(pair)
     }
 
     fn since(&self, pair: usize, k: usize) -> Option<i64> {
         let below = self.inner.delay(pair);
-        let more = below.saturating_add(self.extras.at(pair)) - below;
-        match self.inner.since(pair, k) {
-            Some(since) => Some(since - i64::from(more)),
-            None => None,
-        }
+        let more = self.longer(pair, below) - below;
+        self.inner
+            .since(pair, k)
+            .map(|since| since - i64::from(more))
     }
 
     fn pairs(&self) -> usize {
@@ -93,7 +100,7 @@ impl<K: Cable> Cable for Stretch<K> {
 
     fn delay(&self, pair: usize) -> u16 {
         if pair < self.inner.pairs() {
-            self.inner.delay(pair).saturating_add(self.extras.at(pair))
+            self.longer(pair, self.inner.delay(pair))
         } else {
             0
         }

@@ -1,14 +1,14 @@
-use Rattle.std.proofs.Common.{arith}
+use Rattle.std.proofs.Common.{sym, ◌∙◌, arith}
 use Rattle.std.proofs.lemmas.Int.{ints}
 use Rattle.layer.specs.Passed.{passed_take, passed_take_said}
 use Rattle.layer.specs.Stretched.{stretch_passes, stretched_one}
 use Rattle.layer.proofs.stretch.StretchCable.take.Goals as goal
 
-pub returns-in-Some : goal.returns-in-Some
-returns-in-Some g c =
+pub returns : goal.returns
+returns g c =
     let xs = c.args.self.now.extras.0 in
     let m = g.K.Cable.model c.args.self.now.inner in
     let on = stretch_passes xs m c.args.pair in
-    let same = stretched_one xs m (g.met.K.Cable.formed c.args.self.now.inner) c.args.pair c.in-Some.since
-    c.in-Some.ensures (grind (arith, ints)) in
+    let same = stretched_one xs m (g.met.K.Cable.formed c.args.self.now.inner) c.args.pair c.in_ok-since.field-0
+    (sym c.in_ok-since.was ∙ c.since.ensures) (grind (arith, ints)) in
     record { said = passed_take_said on same c.take.ensures.said; after = passed_take on same c.take.ensures.after }
