@@ -4,7 +4,8 @@ use Rattle.std.proofs.lemmas.List.{at_drop_more, at_drop_all}
 use Rattle.frame.specs.Checks.{crc6_fed, crc6_end}
 use Rattle.frame.proofs.Feeding.{crc6_fed_append, crc6_end_nil}
 use Rattle.trench.specs.declared.fault.Fault.{Fault}
-use Rattle.trench.specs.Commands.{Said, crc6, Text, Words, and_then, texts, word, bytes_of}
+use Rattle.words.specs.Words.{Text, Words, and_then, texts, word}
+use Rattle.trench.specs.Commands.{Said, crc6, bytes_of}
 use Rattle.trench.specs.Words.{byte_of}
 
 -- the check over the bytes of some words once a register has taken others

@@ -1,6 +1,7 @@
 // Commands: from the words of a line to what is answered.
-ghost use Rattle.std.specs.Prelude.{◌≡◌, drop};
-ghost use Rattle.trench.specs.Commands.{outcome, texts, word, header_written, header_read, superframe, crc6_checked, header_write_command, header_read_command, superframe_command, verb_of, answer_to};
+ghost use Rattle.std.specs.Prelude.{◌≡◌};
+ghost use Rattle.words.specs.Words.{texts};
+ghost use Rattle.trench.specs.Commands.{outcome, header_written, header_read, crc6_checked, header_write_command, header_read_command, superframe_command, answer_to};
 
 use crate::answer::Answer;
 use crate::fault::{Fault, Field, Form};
@@ -26,34 +27,7 @@ fn header_read(frame: &str, first: &str, second: &str) -> Result<Answer, Fault>
     let frame = number(Field::Frame, frame)?;
     let first = byte(first)?;
     let second = byte(second)?;
-    match read(frame, u16::from_be_bytes([first, second])) {
-        Ok(fields) => Ok(Answer::Carried(fields)),
-        Err(refusal) => Ok(Answer::Refusal(refusal)),
-    }
-}
-
-// superframe C6BITS CODE V0 V1 V2 V3 V4
-fn superframe_headers(
-    bits: &str,
-    code: &str,
-    v0: &str,
-    v1: &str,
-    v2: &str,
-    v3: &str,
-    v4: &str,
-) -> Result<Answer, Fault>
-    ensures { outcome result ≡ superframe bits.now code.now v0.now v1.now v2.now v3.now v4.now }
-{
-    let crc = number(Field::C6Bits, bits)?;
-    let code = number(Field::Code, code)?;
-    let values = [
-        number(Field::Value, v0)?,
-        number(Field::Value, v1)?,
-        number(Field::Value, v2)?,
-        number(Field::Value, v3)?,
-        number(Field::Value, v4)?,
-    ];
-    Ok(Answer::Headers(headers(crc, Event { code, values })))
+    Ok(Answer::Carried(read(frame, u16::from_be_bytes([first, second]))))
 }
 
 // crc6 BYTE BYTE ...
@@ -91,67 +65,26 @@ fn header_read_of(words: &[&str]) -> Result<Answer, Fault>
 fn superframe_of(words: &[&str]) -> Result<Answer, Fault>
     ensures { outcome result ≡ superframe_command words.now }
 {
-    match words {
-        [bits, code, v0, v1, v2, v3, v4] => superframe_headers(bits, code, v0, v1, v2, v3, v4),
-        _ => Err(Fault::Takes(Form::Superframe)),
-    }
-}
-
-/// The commands.
-#[derive(Clone, Copy, PartialEq, Eq, Debug)]
-pub enum Verb {
-    HeaderWrite,
-    HeaderRead,
-    Superframe,
-    Crc6,
-}
-
-// The command that one or two words name.
-fn verb_of(first: &str, second: &str) -> Option<Verb>
-    ensures { result ≡ verb_of first.now second.now }
-{
-    match first {
-        "header" => match second {
-            "write" => Some(Verb::HeaderWrite),
-            "read" => Some(Verb::HeaderRead),
-            _ => None,
-        },
-        "superframe" => Some(Verb::Superframe),
-        "crc6" => Some(Verb::Crc6),
-        _ => None,
-    }
-}
-
-// A word by its place, empty where there is none.
-fn word_at<'a>(words: &[&'a str], place: usize) -> &'a str
-    ensures { result.now ≡ word words.now place }
-{
-    match words.get(place) {
-        Some(word) => word,
-        None => "",
-    }
-}
-
-// The words after the first `count`.
-fn after<'a, 'b>(words: &'a [&'b str], count: usize) -> &'a [&'b str]
-    ensures { result.now ≡ drop count words.now }
-{
-    if count <= words.len() {
-        &words[count..]
-    } else {
-        &[]
-    }
+    let [bits, code, v0, v1, v2, v3, v4] = words else {
+        return Err(Fault::Takes(Form::Superframe));
+    };
+    let crc = number(Field::C6Bits, bits)?;
+    let code = number(Field::Code, code)?;
+    let value = |word| number(Field::Value, word);
+    let values = [value(v0)?, value(v1)?, value(v2)?, value(v3)?, value(v4)?];
+    Ok(Answer::Headers(headers(crc, Event { code, values })))
 }
 
 /// What a command answers, from the words of its line.
+#[tactic(auto, using(crate::proofs::Lone::lone))]
 pub fn answer_to(words: &[&str]) -> Result<Answer, Fault>
     ensures { outcome result ≡ answer_to words.now }
 {
-    match verb_of(word_at(words, 0), word_at(words, 1)) {
-        Some(Verb::HeaderWrite) => header_write_of(after(words, 2)),
-        Some(Verb::HeaderRead) => header_read_of(after(words, 2)),
-        Some(Verb::Superframe) => superframe_of(after(words, 1)),
-        Some(Verb::Crc6) => crc6_over(after(words, 1)),
-        None => Err(Fault::Unknown),
+    match words {
+        ["header", "write", rest @ ..] => header_write_of(rest),
+        ["header", "read", rest @ ..] => header_read_of(rest),
+        ["superframe", rest @ ..] => superframe_of(rest),
+        ["crc6", rest @ ..] => crc6_over(rest),
+        _ => Err(Fault::Unknown),
     }
 }

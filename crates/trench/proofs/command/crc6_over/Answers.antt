@@ -1,6 +1,7 @@
 use Rattle.std.proofs.Common.{◌≡◌, ◌+◌, drop, Ok, Err, Result, sym, ap, ◌∙◌, rules}
 use Rattle.trench.specs.declared.fault.Fault.{Fault}
-use Rattle.trench.specs.Commands.{Said, crc6, outcome, texts}
+use Rattle.words.specs.Words.{texts}
+use Rattle.trench.specs.Commands.{Said, crc6, outcome}
 use Rattle.trench.proofs.Checking.{checked_from, word_next, word_fault, words_all}
 use Rattle.trench.proofs.command.crc6_over.Goals as goal
 
