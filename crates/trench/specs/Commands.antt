@@ -38,6 +38,11 @@ abbrev pub outcome : Result Answer Fault → Result Said Fault
 outcome (Ok a) = Ok (said_by a)
 outcome (Err e) = Err e
 
+-- each of some words read; the first fault ends it
+abbrev pub each_of : {X : Type 0} → (Text → Result X Fault) → List Text → Result (List X) Fault
+each_of read [] = Ok []
+each_of read (w ∷ ws) = and_then (read w) (λ x. and_then (each_of read ws) (λ xs. Ok (x ∷ xs)))
+
 -- header write FRAME C6 DATA
 abbrev pub header_written : Text → Text → Text → Result Said Fault
 header_written f c d =
@@ -63,10 +68,13 @@ superframe bits code v0 v1 v2 v3 v4 =
     and_then (number_of Value v3) (λ d.
     and_then (number_of Value v4) (λ e. Ok (headers (headers_of crc (record { code = n; values = a ∷ (b ∷ (c ∷ (d ∷ (e ∷ [])))) }))))))))))
 
+-- the values of an event
+abbrev pub values_of : List Text → Result (List ℕ) Fault
+values_of = each_of (number_of Value)
+
 -- crc6 BYTE BYTE ...
 abbrev pub bytes_of : List Text → Result (List ℕ) Fault
-bytes_of [] = Ok []
-bytes_of (w ∷ ws) = and_then (byte_of w) (λ b. and_then (bytes_of ws) (λ bs. Ok (b ∷ bs)))
+bytes_of = each_of byte_of
 
 abbrev pub crc6_checked : List Text → Result Said Fault
 crc6_checked ws = and_then (bytes_of ws) (λ bs. Ok (crc6 (crc6_of bs)))

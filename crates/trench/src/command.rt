@@ -1,7 +1,7 @@
 // Commands: from the words of a line to what is answered.
 ghost use Rattle.std.specs.Prelude.{◌≡◌};
 ghost use Rattle.words.specs.Words.{texts};
-ghost use Rattle.trench.specs.Commands.{outcome, header_written, header_read, crc6_checked, header_write_command, header_read_command, superframe_command, answer_to};
+ghost use Rattle.trench.specs.Commands.{outcome, header_written, header_read, values_of, crc6_checked, header_write_command, header_read_command, superframe_command, answer_to};
 
 use crate::answer::Answer;
 use crate::fault::{Fault, Field, Form};
@@ -31,6 +31,7 @@ fn header_read(frame: &str, first: &str, second: &str) -> Result<Answer, Fault>
 }
 
 // crc6 BYTE BYTE ...
+#[tactic(auto, using(crate::proofs::Checking::word_next, crate::proofs::Checking::word_fault, crate::proofs::Checking::words_all))]
 fn crc6_over(words: &[&str]) -> Result<Answer, Fault>
     ensures { outcome result ≡ crc6_checked (texts words.now) }
 {
@@ -61,17 +62,29 @@ fn header_read_of(words: &[&str]) -> Result<Answer, Fault>
     }
 }
 
+// The five values of an event.
+#[tactic(auto, using(crate::proofs::Values::values_none, crate::proofs::Values::values_next, crate::proofs::Values::values_fault, crate::proofs::Values::values_all))]
+fn values_of(words: [&str; 5]) -> Result<[u8; 5], Fault>
+    ensures { result ≡ values_of (texts words.entry) }
+{
+    let mut values = [0; 5];
+    for (place, word) in words.iter().enumerate() {
+        values[place] = number(Field::Value, word)?;
+    }
+    Ok(values)
+}
+
 // What stands after `superframe`.
+#[tactic(auto, using(crate::proofs::Values::superframe_by_values))]
 fn superframe_of(words: &[&str]) -> Result<Answer, Fault>
     ensures { outcome result ≡ superframe_command words.now }
 {
-    let [bits, code, v0, v1, v2, v3, v4] = words else {
+    let &[bits, code, v0, v1, v2, v3, v4] = words else {
         return Err(Fault::Takes(Form::Superframe));
     };
     let crc = number(Field::C6Bits, bits)?;
     let code = number(Field::Code, code)?;
-    let value = |word| number(Field::Value, word);
-    let values = [value(v0)?, value(v1)?, value(v2)?, value(v3)?, value(v4)?];
+    let values = values_of([v0, v1, v2, v3, v4])?;
     Ok(Answer::Headers(headers(crc, Event { code, values })))
 }
 
