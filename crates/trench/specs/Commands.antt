@@ -1,18 +1,17 @@
 -- What a command answers, from its words. Assumes nothing.
-use Rattle.std.specs.Prelude.{ℕ, ◌+◌, ◌*◌, cond, List, [], ◌∷◌, length, drop, Some, None, Ok, Err, codes, Option, Result, ◌==◌}
+use Rattle.std.specs.Prelude.{ℕ, ◌+◌, ◌*◌, cond, List, [], ◌∷◌, drop, Some, None, Ok, Err, codes, Option, Result}
 use Rattle.std.specs.Str.{bytes_eq}
 use Rattle.frame.specs.Checks.{crc6_of}
 use Rattle.frame.specs.Header.{header_of, read_of}
 use Rattle.frame.specs.Refusals.{Refused, judged, of_header}
 use Rattle.frame.specs.Superframe.{headers_of}
 use Rattle.frame.specs.declared.header.Fields.{Fields}
-use Rattle.words.specs.Words.{Text, Words, texts, and_then, word}
+use Rattle.words.specs.Words.{Text, Words, texts, and_then, word, taking}
 use Rattle.trench.specs.declared.answer.Answer.{Answer}
 use Rattle.trench.specs.declared.answer.Answer.TheVariants.{Header, Carried, Headers, Crc6}
 use Rattle.trench.specs.declared.fault.Fault.{Fault}
 use Rattle.trench.specs.declared.fault.Fault.TheVariants.{Unknown, Takes}
 use Rattle.trench.specs.declared.fault.Field.TheVariants.{Frame, C6, Data, C6Bits, Code, Value}
-use Rattle.trench.specs.declared.fault.Form.{Form}
 use Rattle.trench.specs.declared.fault.Form.TheVariants.{HeaderWrite, HeaderRead, Superframe}
 use Rattle.trench.specs.Words.{number_of, byte_of}
 
@@ -79,20 +78,16 @@ bytes_of = each_of byte_of
 abbrev pub crc6_checked : List Text → Result Said Fault
 crc6_checked ws = and_then (bytes_of ws) (λ bs. Ok (crc6 (crc6_of bs)))
 
--- as many words as a command takes
-abbrev pub taking : ℕ → Form → Words → Result Said Fault → Result Said Fault
-taking n form words r = cond (length words == n) r (Err (Takes form))
-
 -- what stands after the words that name a command
 abbrev pub header_write_command : Words → Result Said Fault
-header_write_command words = taking 3 HeaderWrite words (header_written (word words 0) (word words 1) (word words 2))
+header_write_command words = taking 3 (Takes HeaderWrite) words (header_written (word words 0) (word words 1) (word words 2))
 
 abbrev pub header_read_command : Words → Result Said Fault
-header_read_command words = taking 3 HeaderRead words (header_read (word words 0) (word words 1) (word words 2))
+header_read_command words = taking 3 (Takes HeaderRead) words (header_read (word words 0) (word words 1) (word words 2))
 
 abbrev pub superframe_command : Words → Result Said Fault
 superframe_command words =
-    taking 7 Superframe words (superframe (word words 0) (word words 1) (word words 2) (word words 3) (word words 4) (word words 5) (word words 6))
+    taking 7 (Takes Superframe) words (superframe (word words 0) (word words 1) (word words 2) (word words 3) (word words 4) (word words 5) (word words 6))
 
 -- the commands
 pub data Verb : Type 0 where
