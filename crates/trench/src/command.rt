@@ -1,7 +1,7 @@
 // Commands: from the words of a line to what is answered.
 ghost use Rattle.std.specs.Prelude.{◌≡◌};
 ghost use Rattle.words.specs.Words.{texts};
-ghost use Rattle.trench.specs.Commands.{outcome, header_written, header_read, values_of, crc6_checked, header_write_command, header_read_command, superframe_command, answer_to};
+ghost use Rattle.trench.specs.Commands.{outcome, values_of, crc6_checked, header_write_command, header_read_command, superframe_command, answer_to};
 
 use crate::answer::Answer;
 use crate::fault::{Fault, Field, Form};
@@ -10,20 +10,26 @@ use frame::crc6;
 use frame::event::{Event, headers};
 use frame::header::{read, write};
 
-// header write FRAME C6 DATA
-fn header_write(frame: &str, c6: &str, data: &str) -> Result<Answer, Fault>
-    ensures { outcome result ≡ header_written frame.now c6.now «data».now }
+// header write FRAME C6 DATA, from what stands after `header write`.
+fn header_write(words: &[&str]) -> Result<Answer, Fault>
+    ensures { outcome result ≡ header_write_command words.now }
 {
+    let [frame, c6, data] = words else {
+        return Err(Fault::Takes(Form::HeaderWrite));
+    };
     let frame = number(Field::Frame, frame)?;
     let c6 = number(Field::C6, c6)?;
     let data = number(Field::Data, data)?;
     Ok(Answer::Header(write(frame, c6, data)))
 }
 
-// header read FRAME BYTE BYTE
-fn header_read(frame: &str, first: &str, second: &str) -> Result<Answer, Fault>
-    ensures { outcome result ≡ header_read frame.now first.now second.now }
+// header read FRAME BYTE BYTE, from what stands after `header read`.
+fn header_read(words: &[&str]) -> Result<Answer, Fault>
+    ensures { outcome result ≡ header_read_command words.now }
 {
+    let [frame, first, second] = words else {
+        return Err(Fault::Takes(Form::HeaderRead));
+    };
     let frame = number(Field::Frame, frame)?;
     let first = byte(first)?;
     let second = byte(second)?;
@@ -42,26 +48,6 @@ fn crc6_over(words: &[&str]) -> Result<Answer, Fault>
     Ok(Answer::Crc6(crc6::finish(register)))
 }
 
-// What stands after `header write`.
-fn header_write_of(words: &[&str]) -> Result<Answer, Fault>
-    ensures { outcome result ≡ header_write_command words.now }
-{
-    match words {
-        [frame, c6, data] => header_write(frame, c6, data),
-        _ => Err(Fault::Takes(Form::HeaderWrite)),
-    }
-}
-
-// What stands after `header read`.
-fn header_read_of(words: &[&str]) -> Result<Answer, Fault>
-    ensures { outcome result ≡ header_read_command words.now }
-{
-    match words {
-        [frame, first, second] => header_read(frame, first, second),
-        _ => Err(Fault::Takes(Form::HeaderRead)),
-    }
-}
-
 // The five values of an event.
 #[tactic(auto, using(crate::proofs::Values::values_none, crate::proofs::Values::values_next, crate::proofs::Values::values_fault, crate::proofs::Values::values_all))]
 fn values_of(words: [&str; 5]) -> Result<[u8; 5], Fault>
@@ -74,9 +60,9 @@ fn values_of(words: [&str; 5]) -> Result<[u8; 5], Fault>
     Ok(values)
 }
 
-// What stands after `superframe`.
+// superframe C6BITS CODE V0 V1 V2 V3 V4, from what stands after `superframe`.
 #[tactic(auto, using(crate::proofs::Values::superframe_by_values))]
-fn superframe_of(words: &[&str]) -> Result<Answer, Fault>
+fn superframe(words: &[&str]) -> Result<Answer, Fault>
     ensures { outcome result ≡ superframe_command words.now }
 {
     let &[bits, code, v0, v1, v2, v3, v4] = words else {
@@ -94,9 +80,9 @@ pub fn answer_to(words: &[&str]) -> Result<Answer, Fault>
     ensures { outcome result ≡ answer_to words.now }
 {
     match words {
-        ["header", "write", rest @ ..] => header_write_of(rest),
-        ["header", "read", rest @ ..] => header_read_of(rest),
-        ["superframe", rest @ ..] => superframe_of(rest),
+        ["header", "write", rest @ ..] => header_write(rest),
+        ["header", "read", rest @ ..] => header_read(rest),
+        ["superframe", rest @ ..] => superframe(rest),
         ["crc6", rest @ ..] => crc6_over(rest),
         _ => Err(Fault::Unknown),
     }

@@ -62,7 +62,7 @@ fn main(rt: HostRuntime) -> io::Result<()> {
     let mut input = BufReader::new(rt.alloc(), rt.stdin())?;
     let mut line = Vec::new(rt.alloc());
     let mut cables = Cables::new();
-    // `split` and `lines` end the input at a line that finds no memory; here the next line goes on.
+    // `split` and `lines` end at a line that finds no memory, where this goes on; a `loop` would need the handle `Wait`.
     for _ in 0..u64::MAX {
         match input.read_until(b'\n', &mut line) {
             Ok(0) => break,
