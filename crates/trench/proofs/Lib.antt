@@ -1,2 +1,4 @@
 pub mod Checking
-pub mod Numbers
+pub mod Lone
+pub mod Reading
+pub mod Values

@@ -1,20 +1,17 @@
 -- What a command answers, from its words. Assumes nothing.
-use Rattle.std.specs.Prelude.{ℕ, ◌+◌, ◌*◌, cond, List, [], ◌∷◌, map, length, drop, Some, None, Ok, Err, codes, Option, Result, ◌==◌, slice_index_or}
-use Rattle.std.specs.Borrow.{Bor}
+use Rattle.std.specs.Prelude.{ℕ, ◌+◌, ◌*◌, cond, List, [], ◌∷◌, drop, Some, None, Ok, Err, codes, Option, Result}
 use Rattle.std.specs.Str.{bytes_eq}
 use Rattle.frame.specs.Checks.{crc6_of}
 use Rattle.frame.specs.Header.{header_of, read_of}
-use Rattle.frame.specs.Refusals.{Refused, of_header}
+use Rattle.frame.specs.Refusals.{Refused, judged, of_header}
 use Rattle.frame.specs.Superframe.{headers_of}
 use Rattle.frame.specs.declared.header.Fields.{Fields}
+use Rattle.words.specs.Words.{Text, Words, texts, and_then, word, taking}
 use Rattle.trench.specs.declared.answer.Answer.{Answer}
-use Rattle.trench.specs.declared.answer.Answer.TheVariants.{Header, Carried, Headers, Crc6, Refusal}
-use Rattle.trench.specs.declared.command.Verb.{Verb}
-use Rattle.trench.specs.declared.command.Verb.TheVariants.{HeaderWrite as HeaderWriteVerb, HeaderRead as HeaderReadVerb, Superframe as SuperframeVerb, Crc6 as Crc6Verb}
+use Rattle.trench.specs.declared.answer.Answer.TheVariants.{Header, Carried, Headers, Crc6}
 use Rattle.trench.specs.declared.fault.Fault.{Fault}
 use Rattle.trench.specs.declared.fault.Fault.TheVariants.{Unknown, Takes}
 use Rattle.trench.specs.declared.fault.Field.TheVariants.{Frame, C6, Data, C6Bits, Code, Value}
-use Rattle.trench.specs.declared.fault.Form.{Form}
 use Rattle.trench.specs.declared.fault.Form.TheVariants.{HeaderWrite, HeaderRead, Superframe}
 use Rattle.trench.specs.Words.{number_of, byte_of}
 
@@ -26,31 +23,24 @@ pub data Said : Type 0 where
   crc6 : ℕ → Said
   refused : Refused → Said
 
+abbrev pub read_said : Result Fields Refused → Said
+read_said (Ok fields) = carried fields
+read_said (Err e) = refused e
+
 abbrev pub said_by : Answer → Said
 said_by (Header h) = header h
-said_by (Carried fields) = carried fields
+said_by (Carried r) = read_said (judged of_header r)
 said_by (Headers hs) = headers hs
 said_by (Crc6 n) = crc6 n
-said_by (Refusal e) = refused (of_header e)
 
 abbrev pub outcome : Result Answer Fault → Result Said Fault
 outcome (Ok a) = Ok (said_by a)
 outcome (Err e) = Err e
 
--- a text is its bytes; the words of a line are references to texts
-abbrev pub Text : Type 0
-Text = List ℕ
-
-abbrev pub Words : Type 0
-Words = List (Bor Text)
-
-abbrev pub texts : Words → List Text
-texts words = map (λ w. w.now) words
-
--- one part read after another; the first fault ends it
-abbrev pub and_then : {X Y : Type 0} → Result X Fault → (X → Result Y Fault) → Result Y Fault
-and_then (Ok x) f = f x
-and_then (Err e) f = Err e
+-- each of some words read; the first fault ends it
+abbrev pub each_of : {X : Type 0} → (Text → Result X Fault) → List Text → Result (List X) Fault
+each_of read [] = Ok []
+each_of read (w ∷ ws) = and_then (read w) (λ x. and_then (each_of read ws) (λ xs. Ok (x ∷ xs)))
 
 -- header write FRAME C6 DATA
 abbrev pub header_written : Text → Text → Text → Result Said Fault
@@ -60,10 +50,6 @@ header_written f c d =
     and_then (number_of Data d) (λ byte. Ok (header (header_of frame bit byte)))))
 
 -- header read FRAME BYTE BYTE
-abbrev pub read_said : Result Fields Refused → Said
-read_said (Ok fields) = carried fields
-read_said (Err e) = refused e
-
 abbrev pub header_read : Text → Text → Text → Result Said Fault
 header_read f a b =
     and_then (number_of Frame f) (λ frame.
@@ -81,32 +67,34 @@ superframe bits code v0 v1 v2 v3 v4 =
     and_then (number_of Value v3) (λ d.
     and_then (number_of Value v4) (λ e. Ok (headers (headers_of crc (record { code = n; values = a ∷ (b ∷ (c ∷ (d ∷ (e ∷ [])))) }))))))))))
 
+-- the values of an event
+abbrev pub values_of : List Text → Result (List ℕ) Fault
+values_of = each_of (number_of Value)
+
 -- crc6 BYTE BYTE ...
 abbrev pub bytes_of : List Text → Result (List ℕ) Fault
-bytes_of [] = Ok []
-bytes_of (w ∷ ws) = and_then (byte_of w) (λ b. and_then (bytes_of ws) (λ bs. Ok (b ∷ bs)))
+bytes_of = each_of byte_of
 
 abbrev pub crc6_checked : List Text → Result Said Fault
 crc6_checked ws = and_then (bytes_of ws) (λ bs. Ok (crc6 (crc6_of bs)))
 
--- the k-th word, counted from 0, or an empty one
-abbrev pub word : Words → ℕ → Text
-word words k = (slice_index_or words k (record { ref_ptr = (0, 0); now = [] })).now
-
--- as many words as a command takes
-abbrev pub taking : ℕ → Form → Words → Result Said Fault → Result Said Fault
-taking n form words r = cond (length words == n) r (Err (Takes form))
-
 -- what stands after the words that name a command
 abbrev pub header_write_command : Words → Result Said Fault
-header_write_command words = taking 3 HeaderWrite words (header_written (word words 0) (word words 1) (word words 2))
+header_write_command words = taking 3 (Takes HeaderWrite) words (header_written (word words 0) (word words 1) (word words 2))
 
 abbrev pub header_read_command : Words → Result Said Fault
-header_read_command words = taking 3 HeaderRead words (header_read (word words 0) (word words 1) (word words 2))
+header_read_command words = taking 3 (Takes HeaderRead) words (header_read (word words 0) (word words 1) (word words 2))
 
 abbrev pub superframe_command : Words → Result Said Fault
 superframe_command words =
-    taking 7 Superframe words (superframe (word words 0) (word words 1) (word words 2) (word words 3) (word words 4) (word words 5) (word words 6))
+    taking 7 (Takes Superframe) words (superframe (word words 0) (word words 1) (word words 2) (word words 3) (word words 4) (word words 5) (word words 6))
+
+-- the commands
+pub data Verb : Type 0 where
+  HeaderWriteVerb : Verb
+  HeaderReadVerb : Verb
+  SuperframeVerb : Verb
+  Crc6Verb : Verb
 
 -- the command that one or two words name
 abbrev pub verb_of : Text → Text → Option Verb

@@ -8,10 +8,10 @@ use std::fmt::Display;
 #[derive(Clone, Copy)]
 pub enum Answer {
     Header(u16),
-    Carried(Fields),
+    /// What a header carries, or why it is refused.
+    Carried(Result<Fields, HeaderRefusal>),
     Headers([u16; 6]),
     Crc6(u8),
-    Refusal(HeaderRefusal),
 }
 
 // The two bytes of a header, as a person reads them.
@@ -20,8 +20,7 @@ struct Bytes(u16);
 
 impl fmt::Display for Bytes {
     fn fmt<W: fmt::Write>(&self, f: &mut fmt::Formatter<W>) -> fmt::Result {
-        let first = self.0 >> 8;
-        let second = self.0 & 0xff;
+        let [first, second] = self.0.to_be_bytes();
         write!(f, "{first:02X} {second:02X}")
     }
 }
@@ -30,26 +29,23 @@ impl fmt::Display for Answer {
     fn fmt<W: fmt::Write>(&self, f: &mut fmt::Formatter<W>) -> fmt::Result {
         match self {
             Answer::Header(header) => Bytes(*header).fmt(f),
-            Answer::Carried(fields) => {
-                let c6 = fields.c6;
-                let in6 = fields.in6;
-                let data = fields.data;
+            Answer::Carried(Ok(Fields { c6, in6, data })) => {
                 write!(f, "c6 {c6} in6 {in6} data {data}")
             }
+            Answer::Carried(Err(refusal)) => {
+                let refusal = *refusal;
+                let number = refusal.number();
+                write!(f, "refused {number} ({refusal})")
+            }
             Answer::Headers(headers) => {
-                let mut space = "";
-                for header in headers {
+                Bytes(headers[0]).fmt(f)?;
+                for header in &headers[1..] {
                     let bytes = Bytes(*header);
-                    write!(f, "{space}{bytes}")?;
-                    space = " ";
+                    write!(f, " {bytes}")?;
                 }
                 Ok(())
             }
             Answer::Crc6(crc) => write!(f, "{crc}"),
-            Answer::Refusal(refusal) => {
-                let number = refusal.number();
-                write!(f, "refused {number} ({refusal})")
-            }
         }
     }
 }

@@ -2,6 +2,7 @@
 ghost use Rattle.std.specs.Prelude.{◌≡◌};
 ghost use Rattle.trench.specs.Words.{most_of};
 
+use std::error::Error;
 use std::fmt;
 
 /// What a number in a command stands for.
@@ -22,7 +23,7 @@ impl Field {
     {
         match self {
             Field::C6Bits => 63,
-            _ => 255,
+            _ => u8::MAX,
         }
     }
 }
@@ -48,24 +49,24 @@ pub enum Fault {
 
 impl fmt::Display for Form {
     fn fmt<W: fmt::Write>(&self, f: &mut fmt::Formatter<W>) -> fmt::Result {
-        match self {
-            Form::HeaderWrite => f.write_str("header write FRAME C6 DATA"),
-            Form::HeaderRead => f.write_str("header read FRAME BYTE BYTE"),
-            Form::Superframe => f.write_str("superframe C6BITS CODE V0 V1 V2 V3 V4"),
-        }
+        f.write_str(match self {
+            Form::HeaderWrite => "header write FRAME C6 DATA",
+            Form::HeaderRead => "header read FRAME BYTE BYTE",
+            Form::Superframe => "superframe C6BITS CODE V0 V1 V2 V3 V4",
+        })
     }
 }
 
 impl fmt::Display for Field {
     fn fmt<W: fmt::Write>(&self, f: &mut fmt::Formatter<W>) -> fmt::Result {
-        match self {
-            Field::Frame => f.write_str("FRAME"),
-            Field::C6 => f.write_str("C6"),
-            Field::Data => f.write_str("DATA"),
-            Field::C6Bits => f.write_str("C6BITS"),
-            Field::Code => f.write_str("CODE"),
-            Field::Value => f.write_str("each of V0 to V4"),
-        }
+        f.write_str(match self {
+            Field::Frame => "FRAME",
+            Field::C6 => "C6",
+            Field::Data => "DATA",
+            Field::C6Bits => "C6BITS",
+            Field::Code => "CODE",
+            Field::Value => "each of V0 to V4",
+        })
     }
 }
 
@@ -84,3 +85,5 @@ impl fmt::Display for Fault {
         }
     }
 }
+
+impl Error for Fault {}

@@ -7,35 +7,37 @@ mod fault;
 mod word;
 
 use cable_commands::cables::Cables;
-use cable_commands::fault::CableFault;
 use cable_commands::read::command;
 use command::answer_to;
 use fault::Fault;
+use std::fmt::Display;
 use std::io;
 use std::io::{BufRead, BufReader, ErrorKind};
 
 // Prints what is wrong with a line.
-fn complain(rt: &HostRuntime, fault: Fault) -> io::Result<()> {
+fn complain<F: Display + Drop>(rt: &HostRuntime, fault: F) -> io::Result<()> {
     println!(rt; "error: {fault}")
 }
 
-// Prints what is wrong with a command for a cable.
-fn complain_of_cable(rt: &HostRuntime, fault: CableFault) -> io::Result<()> {
-    println!(rt; "error: {fault}")
+// Prints what a command answers, or what is wrong with it.
+fn tell<T: Display + Drop, F: Display + Drop>(
+    rt: &HostRuntime,
+    answered: Result<T, F>,
+) -> io::Result<()> {
+    match answered {
+        Ok(answer) => println!(rt; "{answer}"),
+        Err(fault) => complain(rt, fault),
+    }
 }
 
 // Answers the words of one line.
 fn answer_words(rt: &HostRuntime, cables: &mut Cables, words: &[&str]) -> io::Result<()> {
     match command(words) {
-        Some(Ok(command)) => match cables.perform(rt.alloc(), command) {
-            Ok(reply) => println!(rt; "{reply}"),
-            Err(fault) => complain_of_cable(rt, fault),
-        },
-        Some(Err(fault)) => complain_of_cable(rt, fault),
-        None => match answer_to(words) {
-            Ok(answer) => println!(rt; "{answer}"),
-            Err(fault) => complain(rt, fault),
-        },
+        Some(command) => tell(
+            rt,
+            command.and_then(|command| cables.perform(rt.alloc(), command)),
+        ),
+        None => tell(rt, answer_to(words)),
     }
 }
 
@@ -47,34 +49,31 @@ fn respond(rt: &HostRuntime, cables: &mut Cables, line: &[u8]) -> io::Result<()>
     let Ok(words) = text.split_whitespace().collect::<Vec<&str>>(rt.alloc()) else {
         return complain(rt, Fault::NoMemory);
     };
-    match words.first() {
-        None => Ok(()),
-        Some(word) if word.starts_with('#') => Ok(()),
-        Some(_) => answer_words(rt, cables, words.as_slice()),
+    match words.as_slice() {
+        [] => Ok(()),
+        [first, ..] if first.starts_with('#') => Ok(()),
+        words => answer_words(rt, cables, words),
     }
 }
 
-// Reads lines to the end of the input and answers each. A line that finds no memory is let go part by part, and
-// answered by that once its end is read.
+// Reads lines to the end of the input and answers each. What is left of a line that finds no memory is passed over, and
+// the line answered by that.
 fn main(rt: HostRuntime) -> io::Result<()> {
     let mut input = BufReader::new(rt.alloc(), rt.stdin())?;
     let mut line = Vec::new(rt.alloc());
     let mut cables = Cables::new();
-    let mut is_cut = false;
+    // `split` and `lines` end at a line that finds no memory, where this goes on; a `loop` would need the handle `Wait`.
     for _ in 0..u64::MAX {
         match input.read_until(b'\n', &mut line) {
-            Ok(0) if !is_cut => break,
-            Ok(_) if is_cut => complain(&rt, Fault::NoMemory)?,
+            Ok(0) => break,
             Ok(_) => respond(&rt, &mut cables, line.as_slice())?,
             Err(e) if e.kind() == ErrorKind::OutOfMemory && !line.is_empty() => {
-                line.clear();
-                is_cut = true;
-                continue;
+                input.skip_until(b'\n')?;
+                complain(&rt, Fault::NoMemory)?;
             }
             Err(e) => return Err(e),
         }
         line.clear();
-        is_cut = false;
     }
     Ok(())
 }

@@ -1,5 +1,5 @@
 -- What a word of a command stands for: a number in decimal digits, a byte in two hexadecimal digits. Assumes nothing.
-use Rattle.std.specs.Prelude.{ℕ, ◌+◌, ◌-◌, ◌*◌, ◌^◌, cond, ◌&&◌, List, [], ◌∷◌, map, length, Some, None, Ok, Err, Option, Result, nat_le, nat_lt, slice_index_or}
+use Rattle.std.specs.Prelude.{ℕ, ◌+◌, ◌-◌, ◌*◌, ◌^◌, cond, ◌&&◌, List, [], ◌∷◌, map, length, Some, None, Ok, Err, Option, Result, ◌==◌, nat_le, nat_lt, slice_index_or}
 use Rattle.std.specs.Borrow.{Bor}
 use Rattle.std.specs.Str.{all_ascii_digits}
 
@@ -26,6 +26,10 @@ or_fault fault (Some x) = Ok x
 -- the k-th word, counted from 0, or an empty one
 abbrev pub word : Words → ℕ → Text
 word words k = (slice_index_or words k (record { ref_ptr = (0, 0); now = [] })).now
+
+-- what is read of n words, or a fault where there are more or fewer
+abbrev pub taking : {X E : Type 0} → ℕ → E → Words → Result X E → Result X E
+taking n fault words r = cond (length words == n) r (Err fault)
 
 -- the number that decimal digits write, after n
 abbrev pub digits_of : ℕ → Text → ℕ

@@ -1,6 +1,6 @@
 use Rattle.std.proofs.Common.{◌≡◌, drop}
 use Rattle.frame.specs.Checks.{ones, crc6_degree}
-use Rattle.trench.specs.Commands.{texts}
+use Rattle.words.specs.Words.{texts}
 use Rattle.trench.proofs.Checking.{checked_from}
 use Rattle.trench.proofs.command.crc6_over.Given as goal
 
