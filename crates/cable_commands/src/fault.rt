@@ -1,8 +1,11 @@
 // Why a command for a cable cannot be done.
 ghost use Rattle.std.specs.Prelude.{◌≡◌};
 ghost use Rattle.cable_commands.specs.Reading.{most_of};
+ghost use Rattle.cable_commands.specs.declared.fault.CableFault.TheVariants.{NoMemory};
 
 use cable::MOST_PAIRS;
+use std::alloc::AllocError;
+use std::error::Error;
 use std::fmt;
 
 /// What a number in a command stands for.
@@ -109,5 +112,15 @@ impl fmt::Display for CableFault {
             CableFault::NoCable => f.write_str("no cable"),
             CableFault::NoMemory => f.write_str("no memory for the row"),
         }
+    }
+}
+
+impl Error for CableFault {}
+
+impl From<AllocError> for CableFault {
+    ghost from_gives = { λ _ fault. fault ≡ NoMemory };
+
+    fn from(_error: AllocError) -> CableFault {
+        CableFault::NoMemory
     }
 }
