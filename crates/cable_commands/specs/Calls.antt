@@ -1,6 +1,6 @@
 -- What a cable replies to a call, and the cable that the call leaves. Assumes nothing.
 use Rattle.std.specs.Prelude.{ℕ, ℤ, Some, None, Ok, Err, Option, Result}
-use Rattle.frame.specs.Refusals.{Refused}
+use Rattle.frame.specs.Refusals.{Refused, judged}
 use Rattle.cable.specs.Calls.{put_said, put_after, take_said, take_after, since_said, free_of, delay_of}
 use Rattle.cable.specs.Model.{Model, pairs_of}
 use Rattle.cable.specs.Refusals.{of_cable}
@@ -32,10 +32,9 @@ age_said None = nothing
 age_said (Some z) = since z
 
 abbrev pub told_by : Reply → Told
-told_by (Done (Ok x)) = done
-told_by (Done (Err e)) = refused (of_cable e)
-told_by (Byte b) = byte_said b
-told_by (SinceReply z) = age_said z
+told_by (Done answer) = done_said (judged of_cable answer)
+told_by (Byte answer) = byte_said answer
+told_by (SinceReply answer) = age_said answer
 told_by (Number n) = number n
 
 abbrev pub reply_to : Call → Model → Told

@@ -1,7 +1,7 @@
 // Commands: from the words of a line to what is wanted of a cable.
 ghost use Rattle.std.specs.Prelude.{◌≡◌, ◌+◌, take, drop};
 ghost use Rattle.std.specs.Result.{result_ok};
-ghost use Rattle.cable_commands.specs.Reading.{form_of, way_of, field_of, ticks_of, byte_in, place_of, row_of, length_of, joint_of, kind_of, lay_of, put_call, tick_call, since_call, call_of, request_of, command_of, command_in};
+ghost use Rattle.cable_commands.specs.Reading.{form_of, way_of, field_of, ticks_of, byte_in, place_of, row_of, length_of, joint_of, kind_of, lay_of, call_of, request_of, command_of, command_in};
 ghost use Rattle.cable_commands.specs.declared.fault.Field.TheVariants.{Pair};
 
 use crate::cables::{Command, Request, Way};
@@ -154,36 +154,18 @@ fn pair_of(word: &str) -> Result<usize, CableFault>
     Ok(number(Field::Pair, word)? as usize)
 }
 
-// put WAY PAIR BYTE
-fn put_call(pair: &str, value: &str) -> Result<Call, CableFault>
-    ensures { result ≡ put_call pair.now value.now }
-{
-    Ok(Call::Put(pair_of(pair)?, byte(value)?))
-}
-
-// tick WAY COUNT
-fn tick_call(count: &str) -> Result<Call, CableFault>
-    ensures { result ≡ tick_call count.now }
-{
-    Ok(Call::Tick(number(Field::Count, count)?))
-}
-
-// since WAY PAIR K
-fn since_call(pair: &str, k: &str) -> Result<Call, CableFault>
-    ensures { result ≡ since_call pair.now k.now }
-{
-    Ok(Call::Since(pair_of(pair)?, number(Field::Index, k)? as usize))
-}
-
 // What stands after the way of a call.
 fn call_of(form: Form, words: &[&str]) -> Result<Call, CableFault>
     ensures { result ≡ call_of form words.now }
 {
     match (form, words) {
-        (Form::Put, [pair, value]) => put_call(pair, value),
+        (Form::Put, [pair, value]) => Ok(Call::Put(pair_of(pair)?, byte(value)?)),
         (Form::Tick, []) => Ok(Call::Tick(1)),
-        (Form::Tick, [count]) => tick_call(count),
-        (Form::Since, [pair, k]) => since_call(pair, k),
+        (Form::Tick, [count]) => Ok(Call::Tick(number(Field::Count, count)?)),
+        (Form::Since, [pair, k]) => Ok(Call::Since(
+            pair_of(pair)?,
+            number(Field::Index, k)? as usize,
+        )),
         (Form::Pairs, []) => Ok(Call::Pairs),
         (Form::Left, []) => Ok(Call::Left),
         (Form::Take, [pair]) => Ok(Call::Take(pair_of(pair)?)),
@@ -200,7 +182,7 @@ fn request_of(form: Form, words: &[&str]) -> Result<Request, CableFault>
 {
     match form {
         Form::Lay => lay_of(words),
-        _ => Ok(Request::Ask(call_of(form, words)?)),
+        _ => call_of(form, words).map(Request::Ask),
     }
 }
 
