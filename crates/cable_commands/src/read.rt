@@ -1,7 +1,7 @@
 // Commands: from the words of a line to what is wanted of a cable.
 ghost use Rattle.std.specs.Prelude.{◌≡◌, ◌+◌, take, drop};
 ghost use Rattle.std.specs.Result.{result_ok};
-ghost use Rattle.cable_commands.specs.Reading.{form_of, way_of, field_of, ticks_of, byte_in, place_of, row_of, length_of, joint_of, kind_of, lay_of, call_of, request_of, command_of, command_in};
+ghost use Rattle.cable_commands.specs.Reading.{form_of, way_of, field_of, ticks_of, byte_in, place_of, place_in, row_of, length_of, joint_of, kind_of, lay_of, call_of, request_of, command_of, command_in};
 ghost use Rattle.cable_commands.specs.declared.fault.Field.TheVariants.{Pair};
 
 use crate::cables::{Command, Request, Way};
@@ -74,18 +74,26 @@ fn byte(word: &str) -> Result<u8, CableFault>
     words::byte(word).ok_or(CableFault::NotByte)
 }
 
+// The place of the first word that is `wanted`.
+fn place_of(words: &[&str], wanted: &str) -> Option<usize>
+    ensures { result ≡ place_in wanted.now words.now }
+{
+    words.iter().position(|word| *word == wanted)
+}
+
 // The words before the first that is `wanted`, and those after it; all the words and none where there is none.
 fn parted<'a, 'b>(words: &'a [&'b str], wanted: &str) -> (&'a [&'b str], &'a [&'b str])
     ensures before { result.0.now ≡ take (place_of wanted.now words.now) words.now }
     ensures after { result.1.now ≡ drop (place_of wanted.now words.now + 1) words.now }
 {
-    match words.iter().position(|word| *word == wanted) {
+    match place_of(words, wanted) {
         Some(place) => (&words[..place], &words[place + 1..]),
         None => words.split_at(words.len()),
     }
 }
 
 // At most as many numbers as a cable may have pairs; those that are not given are 0.
+#[tactic(auto, using(crate::proofs::Filling::filled_more, crate::proofs::Filling::filled_fault, crate::proofs::Filling::filled_all))]
 fn row_of(field: Field, words: &[&str]) -> Result<[u16; MOST_PAIRS], CableFault>
     ensures { result ≡ row_of field words.now }
 {
