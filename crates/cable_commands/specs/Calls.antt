@@ -27,14 +27,14 @@ abbrev pub byte_said : Option ℕ → Told
 byte_said None = nothing
 byte_said (Some b) = byte b
 
-abbrev pub age_said : Option ℤ → Told
-age_said None = nothing
-age_said (Some z) = since z
+abbrev pub since_told : Option ℤ → Told
+since_told None = nothing
+since_told (Some z) = since z
 
 abbrev pub told_by : Reply → Told
 told_by (Done answer) = done_said (judged of_cable answer)
 told_by (Byte answer) = byte_said answer
-told_by (SinceReply answer) = age_said answer
+told_by (SinceReply answer) = since_told answer
 told_by (Number n) = number n
 
 abbrev pub reply_to : Call → Model → Told
@@ -42,7 +42,7 @@ reply_to (Put p b) m = done_said (put_said m p)
 reply_to (Tick n) m = done_said (ticked_said n m)
 reply_to (Take p) m = byte_said (take_said m p)
 reply_to (Peek p) m = byte_said (take_said m p)
-reply_to (Since p k) m = age_said (since_said m p k)
+reply_to (Since p k) m = since_told (since_said m p k)
 reply_to Pairs m = number (pairs_of m)
 reply_to Left m = number m.left
 reply_to (Free p) m = number (free_of m p)

@@ -7,6 +7,5 @@ use Rattle.cable_commands.proofs.read.place_of.Goals as goal
 
 pub returns : goal.returns
 returns c =
-    let words = c.args.words.now in
-    let wanted = c.args.wanted.now in
-    rw (place_is_first wanted words) (position_from_yields_List (λ w. bytes_eq w.now wanted) _ _ _ c.position.ensures.ran (YieldsList-from_slice words cc) (λ x b q k. search (rules, tests)))
+    rw (place_is_first c.args.wanted.now c.args.words.now)
+    (position_from_yields_List (λ w. bytes_eq w.now c.args.wanted.now) _ _ _ c.position.ensures.ran (YieldsList-from_slice c.args.words.now cc) (λ x b q k. search (rules, tests)))
