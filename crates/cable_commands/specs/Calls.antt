@@ -1,15 +1,14 @@
 -- What a cable replies to a call, and the cable that the call leaves. Assumes nothing.
 use Rattle.std.specs.Prelude.{ℕ, ℤ, Some, None, Ok, Err, Option, Result}
-use Rattle.frame.specs.Refusals.{Refused}
+use Rattle.frame.specs.Refusals.{Refused, judged}
 use Rattle.cable.specs.Calls.{put_said, put_after, take_said, take_after, since_said, free_of, delay_of}
 use Rattle.cable.specs.Model.{Model, pairs_of}
 use Rattle.cable.specs.Refusals.{of_cable}
 use Rattle.cable.specs.Runs.{ticked, ticked_said}
-use Rattle.cable.specs.declared.refusal.CableRefusal.{CableRefusal}
 use Rattle.cable_commands.specs.declared.call.Call.{Call}
 use Rattle.cable_commands.specs.declared.call.Call.TheVariants.{Put, Tick, Take, Peek, Since, Pairs, Left, Free, Delay}
 use Rattle.cable_commands.specs.declared.call.Reply.{Reply}
-use Rattle.cable_commands.specs.declared.call.Reply.TheVariants.{Done, Nothing, Byte, Since as SinceReply, Number, Refusal}
+use Rattle.cable_commands.specs.declared.call.Reply.TheVariants.{Done, Byte, Since as SinceReply, Number}
 
 -- what is told: that it is done, that there is nothing, a byte, a since, a number, or a refusal
 pub data Told : Type 0 where
@@ -20,39 +19,30 @@ pub data Told : Type 0 where
   number : ℕ → Told
   refused : Refused → Told
 
-abbrev pub told_by : Reply → Told
-told_by Done = done
-told_by Nothing = nothing
-told_by (Byte b) = byte b
-told_by (SinceReply z) = since z
-told_by (Number n) = number n
-told_by (Refusal e) = refused (of_cable e)
-
-abbrev pub done_or : Result Unit CableRefusal → Reply
-done_or (Ok x) = Done
-done_or (Err e) = Refusal e
-
-abbrev pub byte_or : Option ℕ → Reply
-byte_or None = Nothing
-byte_or (Some b) = Byte b
-
-abbrev pub since_or : Option ℤ → Reply
-since_or None = Nothing
-since_or (Some z) = SinceReply z
-
 abbrev pub done_said : Result Unit Refused → Told
 done_said (Ok x) = done
 done_said (Err e) = refused e
 
 abbrev pub byte_said : Option ℕ → Told
-byte_said o = told_by (byte_or o)
+byte_said None = nothing
+byte_said (Some b) = byte b
+
+abbrev pub since_told : Option ℤ → Told
+since_told None = nothing
+since_told (Some z) = since z
+
+abbrev pub told_by : Reply → Told
+told_by (Done answer) = done_said (judged of_cable answer)
+told_by (Byte answer) = byte_said answer
+told_by (SinceReply answer) = since_told answer
+told_by (Number n) = number n
 
 abbrev pub reply_to : Call → Model → Told
 reply_to (Put p b) m = done_said (put_said m p)
 reply_to (Tick n) m = done_said (ticked_said n m)
 reply_to (Take p) m = byte_said (take_said m p)
 reply_to (Peek p) m = byte_said (take_said m p)
-reply_to (Since p k) m = told_by (since_or (since_said m p k))
+reply_to (Since p k) m = since_told (since_said m p k)
 reply_to Pairs m = number (pairs_of m)
 reply_to Left m = number m.left
 reply_to (Free p) m = number (free_of m p)

@@ -1,5 +1,6 @@
 pub mod Cables
 pub mod Calls
 pub mod Laying
+pub mod Lending
 pub mod Reading
-pub mod LaidCableLemmas
+pub mod LaidFormed

@@ -62,6 +62,10 @@ abbrev pub place_of : Text → Words → ℕ
 place_of wanted [] = 0
 place_of wanted (w ∷ ws) = cond (bytes_eq w.now wanted) 0 (place_of wanted ws + 1)
 
+-- the place of the first word that is a given one, if there is one
+abbrev pub place_in : Text → Words → Option ℕ
+place_in wanted words = cond (nat_lt (place_of wanted words) (length words)) (Some (place_of wanted words)) None
+
 -- a delay or an extra, in ticks
 abbrev pub ticks_of : Field → Text → Result ℕ CableFault
 ticks_of field text = or_fault (NotNumber field) (number_of most_delay text)

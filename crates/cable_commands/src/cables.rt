@@ -1,5 +1,7 @@
 // The cables of the two ways, and what a command does with them.
 ghost use Rattle.std.specs.Prelude.{◌≡◌};
+ghost use Rattle.std.specs.Borrow.{sem};
+ghost use Rattle.cable_commands.specs.Lending.{LendsCable};
 ghost use Rattle.cable_commands.specs.Cables.{cable_at, models_of, on_way, no_cables, with_way, told_for, asked_said, asked_after, Laying, Performed};
 
 use crate::call::{Call, Reply, ask};
@@ -40,17 +42,6 @@ pub struct Cables {
     up: Option<Stretch<Laid>>,
 }
 
-// Asks something of a cable, if it is laid.
-fn ask_of(cable: &mut Option<Stretch<Laid>>, call: Call) -> Result<Reply, CableFault>
-    ensures said { told_for result ≡ asked_said call (cable_at cable.old) }
-    ensures after { cable_at cable.new ≡ asked_after call (cable_at cable.old) }
-{
-    match cable {
-        Some(cable) => Ok(ask(cable, call)),
-        None => Err(CableFault::NoCable),
-    }
-}
-
 impl Cables {
     /// No cable is laid yet.
     pub fn new() -> Cables
@@ -59,6 +50,17 @@ impl Cables {
         Cables {
             down: None,
             up: None,
+        }
+    }
+
+    // The cable of a way.
+    fn on(&mut self, way: Way) -> &mut Option<Stretch<Laid>>
+        ensures* writes_back { sem 𝓛 (LendsCable self.entry way result) }
+        ensures value { cable_at result.now ≡ on_way (models_of self.old) way }
+    {
+        match way {
+            Way::Down => &mut self.down,
+            Way::Up => &mut self.up,
         }
     }
 
@@ -72,15 +74,9 @@ impl Cables {
     ) -> Result<Reply, CableFault>
         ensures { Laying way kind extras (models_of self.old) (told_for result) (models_of self.new) }
     {
-        let Ok(laid) = kind.lay(heap) else {
-            return Err(CableFault::NoMemory);
-        };
-        let cable = Some(Stretch::new(laid, extras));
-        match way {
-            Way::Down => self.down = cable,
-            Way::Up => self.up = cable,
-        }
-        Ok(Reply::Done)
+        let laid = kind.lay(heap)?;
+        *self.on(way) = Some(Stretch::new(laid, extras));
+        Ok(Reply::Done(Ok(())))
     }
 
     // Asks something of the cable of a way.
@@ -88,10 +84,8 @@ impl Cables {
         ensures said { told_for result ≡ asked_said call (on_way (models_of self.old) way) }
         ensures after { models_of self.new ≡ with_way (models_of self.old) way (asked_after call (on_way (models_of self.old) way)) }
     {
-        match way {
-            Way::Down => ask_of(&mut self.down, call),
-            Way::Up => ask_of(&mut self.up, call),
-        }
+        let cable = self.on(way).as_mut().ok_or(CableFault::NoCable)?;
+        Ok(ask(cable, call))
     }
 
     /// Does what a command says.

@@ -1,8 +1,11 @@
 // Why a command for a cable cannot be done.
 ghost use Rattle.std.specs.Prelude.{◌≡◌};
 ghost use Rattle.cable_commands.specs.Reading.{most_of};
+ghost use Rattle.cable_commands.specs.declared.fault.CableFault.TheVariants.{NoMemory};
 
 use cable::MOST_PAIRS;
+use std::alloc::AllocError;
+use std::error::Error;
 use std::fmt;
 
 /// What a number in a command stands for.
@@ -60,37 +63,34 @@ pub enum CableFault {
 
 impl fmt::Display for Field {
     fn fmt<W: fmt::Write>(&self, f: &mut fmt::Formatter<W>) -> fmt::Result {
-        match self {
-            Field::Pairs => f.write_str("PAIRS"),
-            Field::Ticks => f.write_str("TICKS"),
-            Field::Row => f.write_str("ROW"),
-            Field::Delay => f.write_str("DELAY"),
-            Field::Extra => f.write_str("EXTRA"),
-            Field::Pair => f.write_str("PAIR"),
-            Field::Count => f.write_str("COUNT"),
-            Field::Index => f.write_str("K"),
-        }
+        f.write_str(match self {
+            Field::Pairs => "PAIRS",
+            Field::Ticks => "TICKS",
+            Field::Row => "ROW",
+            Field::Delay => "DELAY",
+            Field::Extra => "EXTRA",
+            Field::Pair => "PAIR",
+            Field::Count => "COUNT",
+            Field::Index => "K",
+        })
     }
 }
 
 impl fmt::Display for Form {
     fn fmt<W: fmt::Write>(&self, f: &mut fmt::Formatter<W>) -> fmt::Result {
-        match self {
-            Form::Lay => {
-                f.write_str(
-                    "lay WAY KIND PAIRS TICKS ROW DELAY... [/ PAIRS TICKS ROW DELAY...] [stretch EXTRA...]",
-                )
-            }
-            Form::Put => f.write_str("put WAY PAIR BYTE"),
-            Form::Tick => f.write_str("tick WAY [COUNT]"),
-            Form::Take => f.write_str("take WAY PAIR"),
-            Form::Peek => f.write_str("peek WAY PAIR"),
-            Form::Since => f.write_str("since WAY PAIR K"),
-            Form::Pairs => f.write_str("pairs WAY"),
-            Form::Left => f.write_str("left WAY"),
-            Form::Free => f.write_str("free WAY PAIR"),
-            Form::Delay => f.write_str("delay WAY PAIR"),
-        }
+        f.write_str(match self {
+            Form::Lay =>
+                "lay WAY KIND PAIRS TICKS ROW DELAY... [/ PAIRS TICKS ROW DELAY...] [stretch EXTRA...]",
+            Form::Put => "put WAY PAIR BYTE",
+            Form::Tick => "tick WAY [COUNT]",
+            Form::Take => "take WAY PAIR",
+            Form::Peek => "peek WAY PAIR",
+            Form::Since => "since WAY PAIR K",
+            Form::Pairs => "pairs WAY",
+            Form::Left => "left WAY",
+            Form::Free => "free WAY PAIR",
+            Form::Delay => "delay WAY PAIR",
+        })
     }
 }
 
@@ -109,5 +109,15 @@ impl fmt::Display for CableFault {
             CableFault::NoCable => f.write_str("no cable"),
             CableFault::NoMemory => f.write_str("no memory for the row"),
         }
+    }
+}
+
+impl Error for CableFault {}
+
+impl From<AllocError> for CableFault {
+    ghost from_gives = { λ _ fault. fault ≡ NoMemory };
+
+    fn from(_error: AllocError) -> Self {
+        Self::NoMemory
     }
 }

@@ -1,10 +1,6 @@
 // The cables that the console lays.
 ghost use Rattle.cable_commands.specs.Laying.{laid_model};
-ghost use Rattle.std.specs.Prelude.{true, false};
-ghost use Rattle.layer.specs.Sides.{joint_formed};
-ghost use Rattle.reel.specs.Rows.{row_model};
-ghost use Rattle.cable_commands.specs.declared.laid.Laid.TheVariants.{Reel, Tape, Joint};
-ghost use Rattle.cable_commands.specs.LaidCableLemmas;
+ghost use Rattle.cable_commands.specs.LaidFormed.{laid_formed};
 
 use cable::Cable;
 use cable::refusal::CableRefusal;
@@ -19,84 +15,55 @@ pub enum Laid {
     Joint(Joint<Reel, Tape>),
 }
 
+// The same of a cable of each kind.
+macro_rules! for_each_kind {
+    ($laid:expr, $cable:ident => $result:expr) => {
+        match $laid {
+            Laid::Reel($cable) => $result,
+            Laid::Tape($cable) => $result,
+            Laid::Joint($cable) => $result,
+        }
+    };
+}
+
 impl Cable for Laid {
     ghost model = { laid_model };
 
-    ghost formed = { elim [
-      | Reel reel ↦ LaidCableLemmas.formed true reel
-      | Tape tape ↦ LaidCableLemmas.formed false tape
-      | Joint joint ↦ joint_formed (row_model true joint.first) (row_model false joint.second) (LaidCableLemmas.formed true joint.first) (LaidCableLemmas.formed false joint.second)
-    ] };
+    ghost formed = { laid_formed };
 
     fn put(&mut self, pair: usize, byte: u8) -> Result<(), CableRefusal> {
-        match self {
-            Laid::Reel(cable) => cable.put(pair, byte),
-            Laid::Tape(cable) => cable.put(pair, byte),
-            Laid::Joint(cable) => cable.put(pair, byte),
-        }
+        for_each_kind!(self, cable => cable.put(pair, byte))
     }
 
     fn tick(&mut self) -> Result<(), CableRefusal> {
-        match self {
-            Laid::Reel(cable) => cable.tick(),
-            Laid::Tape(cable) => cable.tick(),
-            Laid::Joint(cable) => cable.tick(),
-        }
+        for_each_kind!(self, cable => cable.tick())
     }
 
     fn take(&mut self, pair: usize) -> Option<u8> {
-        match self {
-            Laid::Reel(cable) => cable.take(pair),
-            Laid::Tape(cable) => cable.take(pair),
-            Laid::Joint(cable) => cable.take(pair),
-        }
+        for_each_kind!(self, cable => cable.take(pair))
     }
 
     fn peek(&self, pair: usize) -> Option<u8> {
-        match self {
-            Laid::Reel(cable) => cable.peek(pair),
-            Laid::Tape(cable) => cable.peek(pair),
-            Laid::Joint(cable) => cable.peek(pair),
-        }
+        for_each_kind!(self, cable => cable.peek(pair))
     }
 
     fn since(&self, pair: usize, k: usize) -> Option<i64> {
-        match self {
-            Laid::Reel(cable) => cable.since(pair, k),
-            Laid::Tape(cable) => cable.since(pair, k),
-            Laid::Joint(cable) => cable.since(pair, k),
-        }
+        for_each_kind!(self, cable => cable.since(pair, k))
     }
 
     fn pairs(&self) -> usize {
-        match self {
-            Laid::Reel(cable) => cable.pairs(),
-            Laid::Tape(cable) => cable.pairs(),
-            Laid::Joint(cable) => cable.pairs(),
-        }
+        for_each_kind!(self, cable => cable.pairs())
     }
 
     fn left(&self) -> u64 {
-        match self {
-            Laid::Reel(cable) => cable.left(),
-            Laid::Tape(cable) => cable.left(),
-            Laid::Joint(cable) => cable.left(),
-        }
+        for_each_kind!(self, cable => cable.left())
     }
 
     fn free(&self, pair: usize) -> usize {
-        match self {
-            Laid::Reel(cable) => cable.free(pair),
-            Laid::Tape(cable) => cable.free(pair),
-            Laid::Joint(cable) => cable.free(pair),
-        }
+        for_each_kind!(self, cable => cable.free(pair))
     }
 
     fn delay(&self, pair: usize) -> u16 {
-        match self {
-            Laid::Reel(cable) => cable.delay(pair),
-            Laid::Tape(cable) => cable.delay(pair),
-            Laid::Joint(cable) => cable.delay(pair),
-        }
+        for_each_kind!(self, cable => cable.delay(pair))
     }
 }

@@ -1,6 +1,7 @@
 // Commands: from the words of a line to what is wanted of a cable.
-ghost use Rattle.std.specs.Prelude.{◌≡◌, ◌≤◌, length};
-ghost use Rattle.cable_commands.specs.Reading.{form_of, way_of, field_of, ticks_of, byte_in, place_of, row_of, length_of, joint_of, kind_of, lay_of, put_call, tick_call, since_call, pair_call, call_of, request_of, command_of, command_in};
+ghost use Rattle.std.specs.Prelude.{◌≡◌, ◌+◌, take, drop};
+ghost use Rattle.std.specs.Result.{result_ok};
+ghost use Rattle.cable_commands.specs.Reading.{form_of, way_of, field_of, ticks_of, byte_in, place_of, place_in, row_of, length_of, joint_of, kind_of, lay_of, call_of, request_of, command_of, command_in};
 ghost use Rattle.cable_commands.specs.declared.fault.Field.TheVariants.{Pair};
 
 use crate::cables::{Command, Request, Way};
@@ -8,35 +9,47 @@ use crate::call::Call;
 use crate::fault::{CableFault, Field, Form};
 use crate::kind::{Kind, Length};
 use cable::MOST_PAIRS;
-use words::{after, before, word_at};
+use std::str::FromStr;
+
+/// The word names no command for a cable.
+#[derive(Clone, Copy, PartialEq, Eq, Debug)]
+pub struct NotForm;
 
 // The command that a word names.
-fn form_of(word: &str) -> Option<Form>
-    ensures { result ≡ form_of word.now }
-{
-    match word {
-        "lay" => Some(Form::Lay),
-        "put" => Some(Form::Put),
-        "tick" => Some(Form::Tick),
-        "take" => Some(Form::Take),
-        "peek" => Some(Form::Peek),
-        "since" => Some(Form::Since),
-        "pairs" => Some(Form::Pairs),
-        "left" => Some(Form::Left),
-        "free" => Some(Form::Free),
-        "delay" => Some(Form::Delay),
-        _ => None,
+impl FromStr for Form {
+    type Err = NotForm;
+
+    ghost from_str_gives = { λ text form. result_ok form ≡ form_of text };
+
+    fn from_str(word: &str) -> Result<Form, NotForm> {
+        match word {
+            "lay" => Ok(Form::Lay),
+            "put" => Ok(Form::Put),
+            "tick" => Ok(Form::Tick),
+            "take" => Ok(Form::Take),
+            "peek" => Ok(Form::Peek),
+            "since" => Ok(Form::Since),
+            "pairs" => Ok(Form::Pairs),
+            "left" => Ok(Form::Left),
+            "free" => Ok(Form::Free),
+            "delay" => Ok(Form::Delay),
+            _ => Err(NotForm),
+        }
     }
 }
 
 // The way that a word names.
-fn way_of(word: &str) -> Result<Way, CableFault>
-    ensures { result ≡ way_of word.now }
-{
-    match word {
-        "down" => Ok(Way::Down),
-        "up" => Ok(Way::Up),
-        _ => Err(CableFault::NotWay),
+impl FromStr for Way {
+    type Err = CableFault;
+
+    ghost from_str_gives = { λ text way. way ≡ way_of text };
+
+    fn from_str(word: &str) -> Result<Way, CableFault> {
+        match word {
+            "down" => Ok(Way::Down),
+            "up" => Ok(Way::Up),
+            _ => Err(CableFault::NotWay),
+        }
     }
 }
 
@@ -44,46 +57,43 @@ fn way_of(word: &str) -> Result<Way, CableFault>
 fn number(field: Field, word: &str) -> Result<u64, CableFault>
     ensures { result ≡ field_of field word.now }
 {
-    match words::number(word, field.most()) {
-        Some(value) => Ok(value),
-        None => Err(CableFault::NotNumber(field)),
-    }
+    words::number(word, field.most()).ok_or(CableFault::NotNumber(field))
 }
 
 // A number of ticks: a delay or an extra.
 fn ticks(field: Field, word: &str) -> Result<u16, CableFault>
     ensures { result ≡ ticks_of field word.now }
 {
-    match words::number(word, u64::from(u16::MAX)) {
-        Some(value) => Ok(value as u16),
-        None => Err(CableFault::NotNumber(field)),
-    }
+    u16::try_from(number(field, word)?).map_err(|_| CableFault::NotNumber(field))
 }
 
 // A byte in two hexadecimal digits.
 fn byte(word: &str) -> Result<u8, CableFault>
     ensures { result ≡ byte_in word.now }
 {
-    match words::byte(word) {
-        Some(value) => Ok(value),
-        None => Err(CableFault::NotByte),
-    }
+    words::byte(word).ok_or(CableFault::NotByte)
 }
 
-// The place of the first word that is `wanted`, or the number of words where none is.
-fn place_of(words: &[&str], wanted: &str) -> usize
-    ensures value { result ≡ place_of wanted.now words.now }
-    ensures bound { result ≤ length words.now }
+// The place of the first word that is `wanted`.
+fn place_of(words: &[&str], wanted: &str) -> Option<usize>
+    ensures { result ≡ place_in wanted.now words.now }
 {
-    for (place, word) in words.iter().enumerate() {
-        if *word == wanted {
-            return place;
-        }
+    words.iter().position(|word| *word == wanted)
+}
+
+// The words before the first that is `wanted`, and those after it; all the words and none where there is none.
+fn parted<'a, 'b>(words: &'a [&'b str], wanted: &str) -> (&'a [&'b str], &'a [&'b str])
+    ensures before { result.0.now ≡ take (place_of wanted.now words.now) words.now }
+    ensures after { result.1.now ≡ drop (place_of wanted.now words.now + 1) words.now }
+{
+    match place_of(words, wanted) {
+        Some(place) => (&words[..place], &words[place + 1..]),
+        None => words.split_at(words.len()),
     }
-    words.len()
 }
 
 // At most as many numbers as a cable may have pairs; those that are not given are 0.
+#[tactic(auto, using(crate::proofs::Filling::filled_more, crate::proofs::Filling::filled_fault, crate::proofs::Filling::filled_all))]
 fn row_of(field: Field, words: &[&str]) -> Result<[u16; MOST_PAIRS], CableFault>
     ensures { result ≡ row_of field words.now }
 {
@@ -91,6 +101,7 @@ fn row_of(field: Field, words: &[&str]) -> Result<[u16; MOST_PAIRS], CableFault>
         return Err(CableFault::TooMany(field));
     }
     let mut row = [0; MOST_PAIRS];
+    // `row.iter_mut().zip(words)` gets no proof: once that loop is over, nothing is known of the numbers in the row.
     for (pair, word) in words.iter().enumerate() {
         row[pair] = ticks(field, word)?;
     }
@@ -101,14 +112,14 @@ fn row_of(field: Field, words: &[&str]) -> Result<[u16; MOST_PAIRS], CableFault>
 fn length_of(words: &[&str]) -> Result<Length, CableFault>
     ensures { result ≡ length_of words.now }
 {
-    if words.len() < 3 {
+    let [pairs, ticks, row, delays @ ..] = words else {
         return Err(CableFault::Takes(Form::Lay));
-    }
+    };
     Ok(Length {
-        pairs: number(Field::Pairs, word_at(words, 0))? as usize,
-        ticks: number(Field::Ticks, word_at(words, 1))?,
-        row: number(Field::Row, word_at(words, 2))? as usize,
-        delays: row_of(Field::Delay, after(words, 3))?,
+        pairs: number(Field::Pairs, pairs)? as usize,
+        ticks: number(Field::Ticks, ticks)?,
+        row: number(Field::Row, row)? as usize,
+        delays: row_of(Field::Delay, delays)?,
     })
 }
 
@@ -116,10 +127,8 @@ fn length_of(words: &[&str]) -> Result<Length, CableFault>
 fn joint_of(words: &[&str]) -> Result<Kind, CableFault>
     ensures { result ≡ joint_of words.now }
 {
-    let stroke = place_of(words, "/");
-    let first = length_of(before(words, stroke))?;
-    let second = length_of(after(words, stroke + 1))?;
-    Ok(Kind::Joint(first, second))
+    let (first, second) = parted(words, "/");
+    Ok(Kind::Joint(length_of(first)?, length_of(second)?))
 }
 
 // A kind of cable, with its lengths.
@@ -138,10 +147,12 @@ fn kind_of(kind: &str, words: &[&str]) -> Result<Kind, CableFault>
 fn lay_of(words: &[&str]) -> Result<Request, CableFault>
     ensures { result ≡ lay_of words.now }
 {
-    let stretch = place_of(words, "stretch");
-    let kind = kind_of(word_at(words, 0), after(before(words, stretch), 1))?;
-    let extras = row_of(Field::Extra, after(words, stretch + 1))?;
-    Ok(Request::Lay(kind, extras))
+    let (cable, extras) = parted(words, "stretch");
+    let [kind, lengths @ ..] = cable else {
+        return Err(CableFault::NotKind);
+    };
+    let kind = kind_of(kind, lengths)?;
+    Ok(Request::Lay(kind, row_of(Field::Extra, extras)?))
 }
 
 // The pair that a call names.
@@ -151,53 +162,24 @@ fn pair_of(word: &str) -> Result<usize, CableFault>
     Ok(number(Field::Pair, word)? as usize)
 }
 
-// put WAY PAIR BYTE
-fn put_call(pair: &str, value: &str) -> Result<Call, CableFault>
-    ensures { result ≡ put_call pair.now value.now }
-{
-    Ok(Call::Put(pair_of(pair)?, byte(value)?))
-}
-
-// tick WAY COUNT
-fn tick_call(count: &str) -> Result<Call, CableFault>
-    ensures { result ≡ tick_call count.now }
-{
-    Ok(Call::Tick(number(Field::Count, count)?))
-}
-
-// since WAY PAIR K
-fn since_call(pair: &str, k: &str) -> Result<Call, CableFault>
-    ensures { result ≡ since_call pair.now k.now }
-{
-    Ok(Call::Since(pair_of(pair)?, number(Field::Index, k)? as usize))
-}
-
-// The commands that take a way and a pair.
-fn pair_call(form: Form, pair: &str) -> Result<Call, CableFault>
-    ensures { result ≡ pair_call form pair.now }
-{
-    let pair = pair_of(pair)?;
-    match form {
-        Form::Take => Ok(Call::Take(pair)),
-        Form::Peek => Ok(Call::Peek(pair)),
-        Form::Free => Ok(Call::Free(pair)),
-        Form::Delay => Ok(Call::Delay(pair)),
-        _ => Err(CableFault::Takes(form)),
-    }
-}
-
 // What stands after the way of a call.
 fn call_of(form: Form, words: &[&str]) -> Result<Call, CableFault>
     ensures { result ≡ call_of form words.now }
 {
     match (form, words) {
-        (Form::Put, [pair, value]) => put_call(pair, value),
+        (Form::Put, [pair, value]) => Ok(Call::Put(pair_of(pair)?, byte(value)?)),
         (Form::Tick, []) => Ok(Call::Tick(1)),
-        (Form::Tick, [count]) => tick_call(count),
-        (Form::Since, [pair, k]) => since_call(pair, k),
+        (Form::Tick, [count]) => Ok(Call::Tick(number(Field::Count, count)?)),
+        (Form::Since, [pair, k]) => Ok(Call::Since(
+            pair_of(pair)?,
+            number(Field::Index, k)? as usize,
+        )),
         (Form::Pairs, []) => Ok(Call::Pairs),
         (Form::Left, []) => Ok(Call::Left),
-        (Form::Take | Form::Peek | Form::Free | Form::Delay, [pair]) => pair_call(form, pair),
+        (Form::Take, [pair]) => Ok(Call::Take(pair_of(pair)?)),
+        (Form::Peek, [pair]) => Ok(Call::Peek(pair_of(pair)?)),
+        (Form::Free, [pair]) => Ok(Call::Free(pair_of(pair)?)),
+        (Form::Delay, [pair]) => Ok(Call::Delay(pair_of(pair)?)),
         _ => Err(CableFault::Takes(form)),
     }
 }
@@ -208,7 +190,7 @@ fn request_of(form: Form, words: &[&str]) -> Result<Request, CableFault>
 {
     match form {
         Form::Lay => lay_of(words),
-        _ => Ok(Request::Ask(call_of(form, words)?)),
+        _ => call_of(form, words).map(Request::Ask),
     }
 }
 
@@ -216,11 +198,11 @@ fn request_of(form: Form, words: &[&str]) -> Result<Request, CableFault>
 fn command_of(form: Form, words: &[&str]) -> Result<Command, CableFault>
     ensures { result ≡ command_of form words.now }
 {
-    if words.is_empty() {
+    let [way, words @ ..] = words else {
         return Err(CableFault::Takes(form));
-    }
-    let way = way_of(word_at(words, 0))?;
-    let request = request_of(form, after(words, 1))?;
+    };
+    let way = way.parse()?;
+    let request = request_of(form, words)?;
     Ok(Command { way, request })
 }
 
@@ -228,8 +210,7 @@ fn command_of(form: Form, words: &[&str]) -> Result<Command, CableFault>
 pub fn command(words: &[&str]) -> Option<Result<Command, CableFault>>
     ensures { result ≡ command_in words.now }
 {
-    match form_of(word_at(words, 0)) {
-        Some(form) => Some(command_of(form, after(words, 1))),
-        None => None,
-    }
+    let (name, words) = words.split_first()?;
+    let form = name.parse().ok()?;
+    Some(command_of(form, words))
 }
