@@ -1,10 +1,10 @@
 -- The register ends as the remainder of a division. Assumes nothing.
-use Rattle.std.proofs.Common.{◌≡◌, ℕ, suc, ◌+◌, ◌*◌, ◌^◌, ◌<◌, ◌≤◌, List, [], ◌∷◌, length, sym, ap, ◌∙◌, ⊎_elim, zero-mul, add-one, arith}
+use Rattle.std.proofs.Common.{◌≡◌, ℕ, suc, ◌+◌, ◌*◌, ◌^◌, ◌<◌, ◌≤◌, List, [], ◌∷◌, length, ap, ◌∙◌, ⊎_elim, zero-mul, add-one, arith}
 use lib.Bits.{bit_xor, xor_assoc, xor_comm, xor_zero_r}
-use Rattle.std.proofs.lemmas.Nat.{pow_pos}
 use Rattle.std.proofs.lemmas.Bool.{cases_lt}
 use Rattle.frame.specs.Checks.{ones, dividend}
 use Rattle.frame.specs.Division.{reduced, stepped, divided, Bits, polynomial, product, Remainder}
+use Rattle.frame.proofs.Feeding.{ones_below}
 use Rattle.frame.proofs.Steps.{reduced_low, reduced_high, divided_below, pow_next}
 use Rattle.frame.proofs.Sums.{swap_last, cancel_front, twice_xor, pow_xor}
 
@@ -31,7 +31,7 @@ Quotient d l a r m o bs =
 
 quotient : (d l a r m o : ℕ) (bs : List ℕ) → bit_xor a r ≡ bit_xor (m * 2 ^ d) o → Quotient d l a r m o bs
 unfolding Quotient Step divided stepped
-quotient d l a r m o [] e = let one : o ≡ o * 1 = omega arith in ([], tt, e ∙ ap (bit_xor (m * 2 ^ d)) one)
+quotient d l a r m o [] e = ([], tt, e ∙ ap (bit_xor (m * 2 ^ d)) (omega arith))
 quotient d l a r m o (b ∷ bs) e =
     let t = bit_xor (r * 2) (b * 2 ^ d) in
     let s = step d l t a in
@@ -42,8 +42,4 @@ quotient d l a r m o (b ∷ bs) e =
 -- a register of ones, divided along some bits
 pub divides : (d l : ℕ) (bs : List ℕ) → l < 2 ^ d → Bits bs → Remainder d l (dividend d bs) (divided d l (ones d) bs)
 unfolding Quotient
-divides d l bs hl hb =
-    let below : ones d < 2 ^ d = omega (arith, pow_pos d) in
-    let begun : bit_xor 0 (ones d) ≡ bit_xor (0 * 2 ^ d) (ones d) = rw zero-mul in
-    let whole = quotient d l 0 (ones d) 0 (ones d) bs begun in
-    (divided_below d l (ones d) bs hl below hb, whole)
+divides d l bs hl hb = (divided_below d l (ones d) bs hl (ones_below d) hb, quotient d l 0 (ones d) 0 (ones d) bs (rw zero-mul))

@@ -8,12 +8,12 @@ use Rattle.frame.proofs.Steps.{pow_next}
 use Rattle.frame.proofs.Sums.{cancel_front, cancel_both, exchange, twice_xor}
 
 -- a multiple that has a term from x^d on keeps one, step by step
-step_high : (d l a q : ℕ) → l < 2 ^ d → q < 2 → 2 ^ d ≤ a → 2 ^ d ≤ bit_xor (a * 2) (q * (2 ^ d + l))
-step_high d l a q hl hq ha = grind (arith, high_same (d + 1) (a * 2) (q * (2 ^ d + l)), pow_next d)
+high_step : (d l a q : ℕ) → l < 2 ^ d → q < 2 → 2 ^ d ≤ a → 2 ^ d ≤ bit_xor (a * 2) (q * (2 ^ d + l))
+high_step d l a q hl hq ha = grind (arith, high_same (d + 1) (a * 2) (q * (2 ^ d + l)), pow_next d)
 
 stays_high : (d l a : ℕ) (qs : List ℕ) → l < 2 ^ d → Bits qs → 2 ^ d ≤ a → 2 ^ d ≤ product (2 ^ d + l) a qs
 stays_high d l a [] hl hq ha = ha
-stays_high d l a (q ∷ qs) hl hq ha = stays_high d l (bit_xor (a * 2) (q * (2 ^ d + l))) qs hl hq.1 (step_high d l a q hl hq.0 ha)
+stays_high d l a (q ∷ qs) hl hq ha = stays_high d l (bit_xor (a * 2) (q * (2 ^ d + l))) qs hl hq.1 (high_step d l a q hl hq.0 ha)
 
 -- so a multiple of a degree below d is 0
 none_below : (d l : ℕ) (qs : List ℕ) → l < 2 ^ d → Bits qs → product (2 ^ d + l) 0 qs < 2 ^ d → product (2 ^ d + l) 0 qs ≡ 0

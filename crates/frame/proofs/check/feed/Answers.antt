@@ -7,8 +7,7 @@ use Rattle.frame.proofs.Steps.{bits_are_bits}
 use Rattle.frame.proofs.check.feed.Goals as goal
 
 pub loop-byte-init : goal.loop-byte-init
-loop-byte-init g c =
-    masked_in _ _ _ _ _ c.start.ensures
+loop-byte-init g c = masked_in _ _ _ _ _ c.start.ensures
 
 pub loop-byte-preserved : goal.loop-byte-preserved
 loop-byte-preserved g c =

@@ -5,8 +5,7 @@ use Rattle.frame.proofs.Steps.{bits_none, bits_split, bits_are_bits}
 use Rattle.frame.proofs.check.feed_nibbles.Goals as goal
 
 pub loop-k-init : goal.loop-k-init
-loop-k-init g c =
-    masked_in _ _ _ _ _ c.start.ensures
+loop-k-init g c = masked_in _ _ _ _ _ c.start.ensures
 
 pub loop-k-preserved : goal.loop-k-preserved
 loop-k-preserved g c =
