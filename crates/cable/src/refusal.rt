@@ -6,6 +6,8 @@ use std::error::Error;
 use std::fmt;
 
 /// What a cable cannot do.
+// Beside the refusals of headers an enum of its own, with the same three methods: a trait over both would state them once
+// more, each enum would still have to say them, and nothing is generic over refusals.
 #[derive(Clone, Copy, PartialEq, Eq, Debug)]
 pub enum CableRefusal {
     /// No tick is left.

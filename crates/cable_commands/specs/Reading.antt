@@ -4,7 +4,7 @@ use Rattle.std.specs.Prelude.{ℕ, ◌+◌, ◌-◌, ◌^◌, cond, List, [], �
 use Rattle.std.specs.Str.{bytes_eq}
 use Rattle.cable.specs.Bounds.{most_pairs, most_delay}
 use Rattle.cable.specs.Model.{numbered}
-use Rattle.words.specs.Words.{Text, Words, and_then, or_fault, word, number_of, byte_of}
+use Rattle.words.specs.Words.{Text, Words, and_then, or_fault, word, number_of, byte_of, taking}
 use Rattle.cable_commands.specs.declared.cables.Command.{Command}
 use Rattle.cable_commands.specs.declared.cables.Request.{Request}
 use Rattle.cable_commands.specs.declared.cables.Request.TheVariants.{Lay as LayRequest, Ask}
@@ -115,10 +115,6 @@ lay_of words =
     and_then (kind_of (word words 0) (drop 1 (take (stretch_in words) words))) (λ kind.
     and_then (row_of Extra (drop (stretch_in words + 1) words)) (λ extras. Ok (LayRequest kind extras)))
 
--- as many words as a call takes
-abbrev pub taking : ℕ → Form → Words → Result Call CableFault → Result Call CableFault
-taking n form words r = cond (length words == n) r (Err (Takes form))
-
 -- put WAY PAIR BYTE
 abbrev pub put_call : Text → Text → Result Call CableFault
 put_call pair value = and_then (field_of Pair pair) (λ p. and_then (byte_in value) (λ b. Ok (PutCall p b)))
@@ -150,15 +146,15 @@ pair_call form pair = and_then (field_of Pair pair) (λ p. on_pair form p)
 -- what stands after the way of a call
 abbrev pub call_of : Form → Words → Result Call CableFault
 call_of Lay words = Err (Takes Lay)
-call_of Put words = taking 2 Put words (put_call (word words 0) (word words 1))
-call_of Tick words = cond (length words == 0) (Ok (TickCall 1)) (taking 1 Tick words (tick_call (word words 0)))
-call_of Take words = taking 1 Take words (pair_call Take (word words 0))
-call_of Peek words = taking 1 Peek words (pair_call Peek (word words 0))
-call_of Since words = taking 2 Since words (since_call (word words 0) (word words 1))
-call_of PairsForm words = taking 0 PairsForm words (Ok PairsCall)
-call_of Left words = taking 0 Left words (Ok LeftCall)
-call_of Free words = taking 1 Free words (pair_call Free (word words 0))
-call_of DelayForm words = taking 1 DelayForm words (pair_call DelayForm (word words 0))
+call_of Put words = taking 2 (Takes Put) words (put_call (word words 0) (word words 1))
+call_of Tick words = cond (length words == 0) (Ok (TickCall 1)) (taking 1 (Takes Tick) words (tick_call (word words 0)))
+call_of Take words = taking 1 (Takes Take) words (pair_call Take (word words 0))
+call_of Peek words = taking 1 (Takes Peek) words (pair_call Peek (word words 0))
+call_of Since words = taking 2 (Takes Since) words (since_call (word words 0) (word words 1))
+call_of PairsForm words = taking 0 (Takes PairsForm) words (Ok PairsCall)
+call_of Left words = taking 0 (Takes Left) words (Ok LeftCall)
+call_of Free words = taking 1 (Takes Free) words (pair_call Free (word words 0))
+call_of DelayForm words = taking 1 (Takes DelayForm) words (pair_call DelayForm (word words 0))
 
 -- what stands after the way
 abbrev pub asking : Result Call CableFault → Result Request CableFault

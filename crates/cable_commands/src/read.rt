@@ -1,7 +1,7 @@
 // Commands: from the words of a line to what is wanted of a cable.
 ghost use Rattle.std.specs.Prelude.{◌≡◌, ◌+◌, take, drop};
 ghost use Rattle.std.specs.Result.{result_ok};
-ghost use Rattle.cable_commands.specs.Reading.{form_of, way_of, field_of, ticks_of, byte_in, place_of, place_in, row_of, length_of, joint_of, kind_of, lay_of, call_of, request_of, command_of, command_in};
+ghost use Rattle.cable_commands.specs.Reading.{form_of, way_of, field_of, ticks_of, place_of, place_in, row_of, length_of, joint_of, kind_of, lay_of, call_of, request_of, command_of, command_in};
 ghost use Rattle.cable_commands.specs.declared.fault.Field.TheVariants.{Pair};
 
 use crate::cables::{Command, Request, Way};
@@ -54,6 +54,7 @@ impl FromStr for Way {
 }
 
 // A number that a field takes.
+// A line of the same form stands in `trench`, over its fields and faults: a trait over both would be longer than the line.
 fn number(field: Field, word: &str) -> Result<u64, CableFault>
     ensures { result ≡ field_of field word.now }
 {
@@ -65,13 +66,6 @@ fn ticks(field: Field, word: &str) -> Result<u16, CableFault>
     ensures { result ≡ ticks_of field word.now }
 {
     u16::try_from(number(field, word)?).map_err(|_| CableFault::NotNumber(field))
-}
-
-// A byte in two hexadecimal digits.
-fn byte(word: &str) -> Result<u8, CableFault>
-    ensures { result ≡ byte_in word.now }
-{
-    words::byte(word).ok_or(CableFault::NotByte)
 }
 
 // The place of the first word that is `wanted`.
@@ -167,7 +161,11 @@ fn call_of(form: Form, words: &[&str]) -> Result<Call, CableFault>
     ensures { result ≡ call_of form words.now }
 {
     match (form, words) {
-        (Form::Put, [pair, value]) => Ok(Call::Put(pair_of(pair)?, byte(value)?)),
+        (Form::Put, [pair, value]) => {
+            let pair = pair_of(pair)?;
+            let value = words::byte(value).ok_or(CableFault::NotByte)?;
+            Ok(Call::Put(pair, value))
+        }
         (Form::Tick, []) => Ok(Call::Tick(1)),
         (Form::Tick, [count]) => Ok(Call::Tick(number(Field::Count, count)?)),
         (Form::Since, [pair, k]) => Ok(Call::Since(

@@ -49,11 +49,14 @@ fn crc6_over(words: &[&str]) -> Result<Answer, Fault>
 }
 
 // The five values of an event.
+// A loop as for the delays of a cable, over other numbers and another fault: one function for both would take the reading of
+// a word as a closure, and of its answers each caller would have to prove the equation again.
 #[tactic(auto, using(crate::proofs::Values::values_none, crate::proofs::Values::values_next, crate::proofs::Values::values_fault, crate::proofs::Values::values_all))]
 fn values_of(words: [&str; 5]) -> Result<[u8; 5], Fault>
     ensures { result ≡ values_of (texts words.entry) }
 {
     let mut values = [0; 5];
+    // `values.iter_mut().zip(words)` gets no proof: once that loop is over, nothing is known of the numbers in the row.
     for (place, word) in words.iter().enumerate() {
         values[place] = number(Field::Value, word)?;
     }
