@@ -5,6 +5,7 @@ use Rattle.std.proofs.lemmas.Bool.{cases_lt}
 use Rattle.cable.specs.Bounds.{most_pairs}
 use Rattle.cable.proofs.Numbered.{numbered_at, numbered_by}
 use Rattle.words.specs.Words.{Words, and_then, word}
+use Rattle.words.proofs.Reading.{each_next, each_fault}
 use Rattle.cable_commands.specs.Reading.{ticks_of, all_ticks, filled}
 use Rattle.cable_commands.specs.declared.fault.CableFault.{CableFault}
 use Rattle.cable_commands.specs.declared.fault.Field.{Field}
@@ -23,18 +24,10 @@ next : (field : Field) (ns : List ℕ) (n : ℕ) (rest : Result (List ℕ) Cable
 next field ns n (Ok more) = ap (λ xs. Ok (filled xs)) (sym (append_assoc ns (n ∷ []) more))
 next field ns n (Err e) = refl
 
-module _ (field : Field) (words : Words) (i : ℕ) (h : i < length words) (ns : List ℕ) where
-  at_word : (r : Result ℕ CableFault) → r ≡ ticks_of field (word words i)
-      → filled_from field ns (drop i words) ≡ and_then (and_then r (λ n. and_then (all_ticks field (drop (i + 1) words)) (λ more. Ok (n ∷ more)))) (λ more. Ok (filled (ns ++ more)))
-  at_word r e =
-      at_drop_more (filled_from field ns) words i _ h
-      ∙ ap (λ x. and_then (and_then x (λ n. and_then (all_ticks field (drop (i + 1) words)) (λ more. Ok (n ∷ more)))) (λ more. Ok (filled (ns ++ more)))) (sym e)
-
-  word_read : (n : ℕ) → Ok n ≡ ticks_of field (word words i) → filled_from field (ns ++ (n ∷ [])) (drop (i + 1) words) ≡ filled_from field ns (drop i words)
-  word_read n e = sym (at_word (Ok n) e ∙ next field ns n (all_ticks field (drop (i + 1) words)))
-
-  word_fault : (fault : CableFault) → Err fault ≡ ticks_of field (word words i) → filled_from field ns (drop i words) ≡ Err fault
-  word_fault fault e = at_word (Err fault) e
+word_read : (field : Field) (words : Words) (i : ℕ) (ns : List ℕ) (n : ℕ) → i < length words → Ok n ≡ ticks_of field (word words i)
+    → filled_from field (ns ++ (n ∷ [])) (drop (i + 1) words) ≡ filled_from field ns (drop i words)
+word_read field words i ns n h e =
+    sym (ap (λ r. and_then r (λ more. Ok (filled (ns ++ more)))) (each_next (ticks_of field) words i n h (sym e)) ∙ next field ns n (all_ticks field (drop (i + 1) words)))
 
 pub filled_more : (field : Field) (words : Words) (row : List ℕ) (i n : ℕ) → i < length words → length words ≤ most_pairs
     → Ok n ≡ ticks_of field (word words i) → Filled field words row i → Filled field words (set row i n) (i + 1)
@@ -51,12 +44,13 @@ filled_more field words row i n h few e f =
           ∙ get_or_past (take i row) q 0 (omega (arith, length-take i row))
           ∙ sym (get_or_past (take (i + 1) (set row i n)) q 0 (omega (arith, length-take (i + 1) (set row i n)))))
           (cases_lt q (i + 1))),
-      ap (λ ns. filled_from field ns (drop (i + 1) words)) grown ∙ word_read field words i h (take i row) n e ∙ f.2,
+      ap (λ ns. filled_from field ns (drop (i + 1) words)) grown ∙ word_read field words i (take i row) n h e ∙ f.2,
     )
 
 pub filled_fault : (field : Field) (words : Words) (row : List ℕ) (i : ℕ) (fault : CableFault) → i < length words
     → Err fault ≡ ticks_of field (word words i) → Filled field words row i → Err fault ≡ filled_from field [] words
-filled_fault field words row i fault h e f = sym (word_fault field words i h (take i row) fault e) ∙ f.2
+filled_fault field words row i fault h e f =
+    sym (ap (λ r. and_then r (λ more. Ok (filled (take i row ++ more)))) (each_fault (ticks_of field) words i fault h (sym e))) ∙ f.2
 
 pub filled_all : (field : Field) (words : Words) (row : List ℕ) (i : ℕ) → length words ≤ i → Filled field words row i → Ok row ≡ filled_from field [] words
 filled_all field words row i h f =

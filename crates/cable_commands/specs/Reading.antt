@@ -4,7 +4,7 @@ use Rattle.std.specs.Prelude.{ℕ, ◌+◌, ◌-◌, ◌^◌, cond, List, [], �
 use Rattle.std.specs.Str.{bytes_eq}
 use Rattle.cable.specs.Bounds.{most_pairs, most_delay}
 use Rattle.cable.specs.Model.{numbered}
-use Rattle.words.specs.Words.{Text, Words, and_then, or_fault, word, number_of, byte_of, taking}
+use Rattle.words.specs.Words.{Text, Words, and_then, or_fault, word, number_of, byte_of, taking, texts, each_of}
 use Rattle.cable_commands.specs.declared.cables.Command.{Command}
 use Rattle.cable_commands.specs.declared.cables.Request.{Request}
 use Rattle.cable_commands.specs.declared.cables.Request.TheVariants.{Lay as LayRequest, Ask}
@@ -72,8 +72,7 @@ ticks_of field text = or_fault (NotNumber field) (number_of most_delay text)
 
 -- a row of such numbers, one after another
 abbrev pub all_ticks : Field → Words → Result (List ℕ) CableFault
-all_ticks field [] = Ok []
-all_ticks field (w ∷ ws) = and_then (ticks_of field w.now) (λ n. and_then (all_ticks field ws) (λ ns. Ok (n ∷ ns)))
+all_ticks field words = each_of (ticks_of field) (texts words)
 
 -- one for each pair that a cable may have; those that are not given are 0
 abbrev pub filled : List ℕ → List ℕ

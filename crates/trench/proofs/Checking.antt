@@ -6,7 +6,7 @@ use Rattle.words.specs.Words.{Text, Words, and_then, texts, word}
 use Rattle.trench.specs.declared.fault.Fault.{Fault}
 use Rattle.trench.specs.Commands.{Said, crc6, bytes_of}
 use Rattle.trench.specs.Words.{byte_of}
-use Rattle.trench.proofs.Reading.{each_next, each_fault, each_all}
+use Rattle.words.proofs.Reading.{each_next, each_fault, each_all}
 
 -- the check over some bytes that were read, once a register has taken others
 abbrev pub checked : ℕ → Result (List ℕ) Fault → Result Said Fault

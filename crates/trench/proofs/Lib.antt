@@ -1,4 +1,2 @@
 pub mod Checking
 pub mod Lone
-pub mod Reading
-pub mod Values

@@ -6,7 +6,7 @@ use Rattle.frame.specs.Header.{header_of, read_of}
 use Rattle.frame.specs.Refusals.{Refused, judged, of_header}
 use Rattle.frame.specs.Superframe.{headers_of}
 use Rattle.frame.specs.declared.header.Fields.{Fields}
-use Rattle.words.specs.Words.{Text, Words, texts, and_then, word, taking}
+use Rattle.words.specs.Words.{each_of, Text, Words, texts, and_then, word, taking}
 use Rattle.trench.specs.declared.answer.Answer.{Answer}
 use Rattle.trench.specs.declared.answer.Answer.TheVariants.{Header, Carried, Headers, Crc6}
 use Rattle.trench.specs.declared.fault.Fault.{Fault}
@@ -37,11 +37,6 @@ abbrev pub outcome : Result Answer Fault → Result Said Fault
 outcome (Ok a) = Ok (said_by a)
 outcome (Err e) = Err e
 
--- each of some words read; the first fault ends it
-abbrev pub each_of : {X : Type 0} → (Text → Result X Fault) → List Text → Result (List X) Fault
-each_of read [] = Ok []
-each_of read (w ∷ ws) = and_then (read w) (λ x. and_then (each_of read ws) (λ xs. Ok (x ∷ xs)))
-
 -- header write FRAME C6 DATA
 abbrev pub header_written : Text → Text → Text → Result Said Fault
 header_written f c d =
@@ -66,10 +61,6 @@ superframe bits code v0 v1 v2 v3 v4 =
     and_then (number_of Value v2) (λ c.
     and_then (number_of Value v3) (λ d.
     and_then (number_of Value v4) (λ e. Ok (headers (headers_of crc (record { code = n; values = a ∷ (b ∷ (c ∷ (d ∷ (e ∷ [])))) }))))))))))
-
--- the values of an event
-abbrev pub values_of : List Text → Result (List ℕ) Fault
-values_of = each_of (number_of Value)
 
 -- crc6 BYTE BYTE ...
 abbrev pub bytes_of : List Text → Result (List ℕ) Fault

@@ -1,7 +1,7 @@
 // Commands: from the words of a line to what is answered.
 ghost use Rattle.std.specs.Prelude.{◌≡◌};
 ghost use Rattle.words.specs.Words.{texts};
-ghost use Rattle.trench.specs.Commands.{outcome, values_of, crc6_checked, header_write_command, header_read_command, superframe_command, answer_to};
+ghost use Rattle.trench.specs.Commands.{outcome, crc6_checked, header_write_command, header_read_command, superframe_command, answer_to};
 
 use crate::answer::Answer;
 use crate::fault::{Fault, Field, Form};
@@ -48,32 +48,23 @@ fn crc6_over(words: &[&str]) -> Result<Answer, Fault>
     Ok(Answer::Crc6(crc6::finish(register)))
 }
 
-// The five values of an event.
-// A loop as for the delays of a cable, over other numbers and another fault: one function for both would take the reading of
-// a word as a closure, and of its answers each caller would have to prove the equation again.
-#[tactic(auto, using(crate::proofs::Values::values_none, crate::proofs::Values::values_next, crate::proofs::Values::values_fault, crate::proofs::Values::values_all))]
-fn values_of(words: [&str; 5]) -> Result<[u8; 5], Fault>
-    ensures { result ≡ values_of (texts words.entry) }
-{
-    let mut values = [0; 5];
-    // `values.iter_mut().zip(words)` gets no proof: once that loop is over, nothing is known of the numbers in the row.
-    for (place, word) in words.iter().enumerate() {
-        values[place] = number(Field::Value, word)?;
-    }
-    Ok(values)
-}
-
 // superframe C6BITS CODE V0 V1 V2 V3 V4, from what stands after `superframe`.
-#[tactic(auto, using(crate::proofs::Values::superframe_by_values))]
 fn superframe(words: &[&str]) -> Result<Answer, Fault>
     ensures { outcome result ≡ superframe_command words.now }
 {
-    let &[bits, code, v0, v1, v2, v3, v4] = words else {
+    let [bits, code, v0, v1, v2, v3, v4] = words else {
         return Err(Fault::Takes(Form::Superframe));
     };
     let crc = number(Field::C6Bits, bits)?;
     let code = number(Field::Code, code)?;
-    let values = values_of([v0, v1, v2, v3, v4])?;
+    // Five lines, and no loop: a loop over five words fills its row by index, and needs a proof where these need none.
+    let values = [
+        number(Field::Value, v0)?,
+        number(Field::Value, v1)?,
+        number(Field::Value, v2)?,
+        number(Field::Value, v3)?,
+        number(Field::Value, v4)?,
+    ];
     Ok(Answer::Headers(headers(crc, Event { code, values })))
 }
 

@@ -31,6 +31,11 @@ word words k = (slice_index_or words k (record { ref_ptr = (0, 0); now = [] })).
 abbrev pub taking : {X E : Type 0} → ℕ → E → Words → Result X E → Result X E
 taking n fault words r = cond (length words == n) r (Err fault)
 
+-- each of some words read, one after another; the first fault ends it
+abbrev pub each_of : {X E : Type 0} → (Text → Result X E) → List Text → Result (List X) E
+each_of read [] = Ok []
+each_of read (w ∷ ws) = and_then (read w) (λ x. and_then (each_of read ws) (λ xs. Ok (x ∷ xs)))
+
 -- the number that decimal digits write, after n
 abbrev pub digits_of : ℕ → Text → ℕ
 digits_of n [] = n
