@@ -9,7 +9,7 @@ use Rattle.cable_commands.specs.Laying.{laid_model}
 use Rattle.cable_commands.specs.declared.laid.Laid.{Laid}
 use Rattle.cable_commands.specs.declared.laid.Laid.TheVariants.{Reel, Tape, Joint}
 
-formed : {P : Type 0} (reuse : Bool) (row : Row P) → Formed (row_model reuse row)
+pub formed : {P : Type 0} (reuse : Bool) (row : Row P) → Formed (row_model reuse row)
 formed reuse row = row_formed (parts_of reuse row) (sound reuse row)
 
 pub laid_formed : (cable : Laid) → Formed (laid_model cable)

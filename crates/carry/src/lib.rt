@@ -3,6 +3,8 @@
 
 ghost use Rattle.std.specs.Prelude.{◌≡◌, true, IfOk};
 ghost use Rattle.cable.specs.Bounds.{most_pairs};
+ghost use Rattle.layer.specs.Joint.{joint_model};
+ghost use Rattle.layer.specs.Stretch.{stretch_model};
 ghost use Rattle.reel.specs.Rows.{row_model};
 ghost use Rattle.carry.specs.Carrying.{mixed, step_after, step_said, carried_sum, reel_laid, pile_laid, SumOr};
 
@@ -58,6 +60,20 @@ fn reel_of(heap: Global, pairs: usize, places: u16, delay: u16) -> Result<Reel, 
     Ok(Reel::new(row, pairs, u64::MAX, [delay; MOST_PAIRS]))
 }
 
+// A stretch over a joint over two reels of four pairs.
+fn pile_of(
+    heap: Global,
+    places: u16,
+    delay: u16,
+    extra: u16,
+) -> Result<Stretch<Joint<Reel, Reel>>, AllocError>
+    ensures { IfOk result (λ pile. stretch_model (joint_model (row_model true) (row_model true)) pile ≡ pile_laid places delay extra) }
+{
+    let first = reel_of(heap, MOST_PAIRS / 2, places, delay)?;
+    let second = reel_of(heap, MOST_PAIRS / 2, places, delay)?;
+    Ok(Stretch::new(Joint::new(first, second), [extra; MOST_PAIRS]))
+}
+
 /// Carries bytes through a reel of eight pairs with so many places to each, and one delay; answers the sum of what comes
 /// out, or `NO_MEMORY`.
 #[unsafe(no_mangle)]
@@ -81,13 +97,8 @@ pub extern "C" fn carry_through_pile(
 ) -> u64
     ensures { SumOr result (carried_sum 0 (pile_laid places delay extra) 0 bytes.now) }
 {
-    // Tried: a function that makes the pile by `?` and gives a `Result`; the benchmark's pile is then some 7% slower.
-    let Ok(first) = reel_of(heap, MOST_PAIRS / 2, places, delay) else {
-        return NO_MEMORY;
-    };
-    let Ok(second) = reel_of(heap, MOST_PAIRS / 2, places, delay) else {
-        return NO_MEMORY;
-    };
-    let mut pile = Stretch::new(Joint::new(first, second), [extra; MOST_PAIRS]);
-    u64::from(carry(&mut pile, bytes))
+    pile_of(heap, places, delay, extra).map_or(
+        NO_MEMORY,
+        |mut pile| u64::from(carry(&mut pile, bytes)),
+    )
 }
