@@ -8,6 +8,7 @@ use cable::run::pass;
 use std::fmt;
 
 /// What is asked of a cable.
+// No closure: a call is read before there is a cable to make it on, and a closure that is made and handed out is refused.
 #[derive(Clone, Copy, PartialEq, Eq, Debug)]
 pub enum Call {
     Put(usize, u8),

@@ -12,6 +12,7 @@ pub trait Reuse {
 }
 
 /// The place is used again.
+// Two types, and no `bool` as the parameter of a row: `Row<Again>` says what `Row<true>` would not.
 pub struct Again;
 
 /// The place is not used again.
