@@ -56,11 +56,12 @@ pub trait Cable {
     fn left(&self) -> u64
         ensures { result ≡ Model.left (model self.now) };
 
-    /// How many places of a pair are not used.
+    /// How many places of a pair are not used, 0 for an absent pair.
+    // No Option, here and for the delay: the meaning of a cable is that an absent pair shows 0, and callers count on a number.
     fn free(&self, pair: usize) -> usize
         ensures { result ≡ free_of (model self.now) pair };
 
-    /// The delay of a pair, in ticks.
+    /// The delay of a pair, in ticks, 0 for an absent pair.
     fn delay(&self, pair: usize) -> u16
         ensures { result ≡ delay_of (model self.now) pair };
 

@@ -34,6 +34,7 @@ impl Field {
 }
 
 /// The commands, by what they take.
+// Not matched at once as the commands of `trench` are: a fault names the command, whatever is wrong behind its name.
 #[derive(Clone, Copy, PartialEq, Eq, Debug)]
 pub enum Form {
     Lay,

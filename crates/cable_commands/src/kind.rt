@@ -22,7 +22,7 @@ pub struct Length {
 }
 
 impl Length {
-    // A row of places laid as a cable.
+    // A row of places laid as a cable. The benchmark has two such lines of its own, since no crate of commands is below it.
     fn lay<P: Reuse>(self, heap: Global) -> Result<Row<P>, AllocError>
         ensures { IfOk result (λ row. row_model P.Reuse.reused row ≡ length_model P.Reuse.reused self) }
     {

@@ -1,5 +1,6 @@
 // CRC-6, over bytes as they pass: a register, which starts with all ones, takes one part of the bytes after the other.
-// Of a register only the six lowest bits count.
+// Of a register only the six lowest bits count. Calls of `check` again, in a byte and with the end's complement, which is the
+// form of a register that C and an end keep.
 ghost use Rattle.std.specs.Prelude.{◌≡◌, ◌^◌, ◌<◌, [], ◌∷◌};
 ghost use Rattle.frame.specs.Checks.{ones, InParts, crc6_degree, crc6_lower, crc6_fed, crc6_end, crc6_of};
 

@@ -8,6 +8,8 @@ use crate::crc4;
 use crate::refusal::HeaderRefusal;
 
 /// What a header carries: its C6 bit, its In6 bit and Data.
+// Bits as numbers, and frames as numbers that each function brings into range: the C interface needs plain numbers, and a
+// narrower type would ask more of callers.
 #[derive(Clone, Copy, PartialEq, Eq, Debug)]
 pub struct Fields {
     pub c6: u8,

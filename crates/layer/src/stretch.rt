@@ -64,7 +64,8 @@ impl<K: Cable> Cable for Stretch<K> {
         self.inner.tick()
     }
 
-    // Tried: one function for the test that opens `take` and `peek`; a pile of layers then runs 4% more instructions.
+    // Tried: one function for the test that opens `take` and `peek`; the benchmark's pile, whose speed may not fall, then runs
+    // 4% more instructions.
     fn take(&mut self, pair: usize) -> Option<u8> {
         if self.since(pair, 0)? < 0 {
             return None;

@@ -6,6 +6,7 @@ use std::error::Error;
 use std::fmt;
 
 /// What a number in a command stands for.
+// Fields, forms and faults of its own, beside those of the commands for cables: other cases, which one type for both would mix.
 #[derive(Clone, Copy, PartialEq, Eq, Debug)]
 pub enum Field {
     Frame,

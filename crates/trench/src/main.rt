@@ -41,13 +41,19 @@ fn answer_words(rt: &HostRuntime, cables: &mut Cables, words: &[&str]) -> io::Re
     }
 }
 
+// The words of one line.
+fn words_of<'a>(rt: &HostRuntime, line: &'a [u8]) -> Result<Vec<&'a str>, Fault> {
+    let text = std::str::from_utf8(line).map_err(|_| Fault::NotText)?;
+    text.split_whitespace()
+        .collect(rt.alloc())
+        .map_err(|_| Fault::NoMemory)
+}
+
 // Answers one line. An empty line, and one that begins with `#`, is passed over.
 fn respond(rt: &HostRuntime, cables: &mut Cables, line: &[u8]) -> io::Result<()> {
-    let Ok(text) = std::str::from_utf8(line) else {
-        return complain(rt, Fault::NotText);
-    };
-    let Ok(words) = text.split_whitespace().collect::<Vec<&str>>(rt.alloc()) else {
-        return complain(rt, Fault::NoMemory);
+    let words = match words_of(rt, line) {
+        Ok(words) => words,
+        Err(fault) => return complain(rt, fault),
     };
     match words.as_slice() {
         [] => Ok(()),

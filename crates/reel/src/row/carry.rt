@@ -52,7 +52,8 @@ impl<P: Reuse> Row<P> {
         self.pairs.get(pair).copied()
     }
 
-    // Where the place of the k-th byte of a pair stands in the row.
+    // Where the place of the k-th byte of a pair stands in the row. That the pair is there is asked here and in the two that
+    // change the row, since a value that proves it would hold the row's borrow through the change.
     fn spot(&self, pair: usize, k: usize) -> usize
         requires there { pair < length self.now.pairs.items }
         requires within { k < self.now.share }
