@@ -95,7 +95,8 @@ fn row_of(field: Field, words: &[&str]) -> Result<[u16; MOST_PAIRS], CableFault>
         return Err(CableFault::TooMany(field));
     }
     let mut row = [0; MOST_PAIRS];
-    // `row.iter_mut().zip(words)` gets no proof: once that loop is over, nothing is known of the numbers in the row.
+    // Tried: `row.iter_mut().zip(words)`, after which nothing is known of the row, and `array::try_from_fn`, which says of each
+    // element that some state of the closure gave it, and so nothing of the words that the closure holds.
     for (pair, word) in words.iter().enumerate() {
         row[pair] = ticks(field, word)?;
     }

@@ -57,7 +57,8 @@ fn superframe(words: &[&str]) -> Result<Answer, Fault>
     };
     let crc = number(Field::C6Bits, bits)?;
     let code = number(Field::Code, code)?;
-    // Five lines, and no loop: a loop over five words fills its row by index, and needs a proof where these need none.
+    // Five lines, and neither a loop nor `try_map`: that each fault is the first word's that has one, and the five together what
+    // the five are one by one, took a file of lemmas, where these lines need no proof.
     let values = [
         number(Field::Value, v0)?,
         number(Field::Value, v1)?,
