@@ -67,11 +67,7 @@ impl<P: Reuse> Row<P> {
     fn nth(&self, pair: usize, k: usize) -> Option<Place>
         ensures { result ≡ nth_of (parts_of P.Reuse.reused self.now) pair k }
     {
-        if k < self.pairs.get(pair)?.ring.count {
-            Some(self.places[self.spot(pair, k)])
-        } else {
-            None
-        }
+        (k < self.pairs.get(pair)?.ring.count).then(|| self.places[self.spot(pair, k)])
     }
 
     // The k-th byte that a pair holds, and its age.
