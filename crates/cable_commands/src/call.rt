@@ -53,6 +53,7 @@ impl fmt::Display for Reply {
     fn fmt<W: fmt::Write>(&self, f: &mut fmt::Formatter<W>) -> fmt::Result {
         match self {
             Reply::Done(Ok(())) => f.write_str("ok"),
+            // As `trench` prints the refusals of headers: a type for what the two print alike would be longer than they are.
             Reply::Done(Err(refusal)) => {
                 let number = refusal.number();
                 match refusal {

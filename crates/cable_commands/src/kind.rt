@@ -13,6 +13,7 @@ use reel::{Reel, Tape};
 use std::alloc::{AllocError, Global};
 
 /// A length of cable: its pairs, its ticks, the places of its row, and the delay of each pair.
+// The number of pairs stands beside the delays, as in `Row::new`, whose parameters stay: it may be any, and what is not given is 0.
 #[derive(Clone, Copy)]
 pub struct Length {
     pub pairs: usize,
@@ -22,7 +23,8 @@ pub struct Length {
 }
 
 impl Length {
-    // A row of places laid as a cable. The benchmark has two such lines of its own, since no crate of commands is below it.
+    // A row of places laid as a cable. The benchmark has two such lines of its own: the crate below both is `reel`, which by a rule
+    // of the project is handed its row and allocates nothing.
     fn lay<P: Reuse>(self, heap: Global) -> Result<Row<P>, AllocError>
         ensures { IfOk result (λ row. row_model P.Reuse.reused row ≡ length_model P.Reuse.reused self) }
     {

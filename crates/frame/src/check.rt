@@ -7,7 +7,7 @@ ghost use Rattle.std.proofs.Common.{rules};
 
 /// A check by its divisor, x^DEGREE + LOWER. Each impl gives both numbers twice, as a meaning and as a constant, which the
 /// proof holds together.
-// `bound` stands in each contract, and a type of registers would be no plainer: callers hand in any number, of which the lowest
+// `bound` stands in eight contracts, and a type of registers would be no plainer: callers hand in any number, of which the lowest
 // bits count, so that public contracts would say it all the same.
 pub trait Check {
     ghost DEGREE: { ℕ };
@@ -51,8 +51,8 @@ pub trait Check {
     ghost below: { LOWER < 2 ^ DEGREE };
 }
 
-// The divisor of a check: x^degree + lower. Each body of a check writes it out: a body in a trait may not hand `Self` to a
-// function with the trait's own bound, and a constructor would ask for what the ghost fields say.
+// The divisor of a check: x^degree + lower. Four bodies write it out: a constructor would be no plainer, since it takes both numbers
+// too, and would ask again for what the ghost fields say.
 #[derive(Clone, Copy)]
 struct Divisor {
     degree: u32,

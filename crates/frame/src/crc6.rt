@@ -1,6 +1,6 @@
 // CRC-6, over bytes as they pass: a register, which starts with all ones, takes one part of the bytes after the other.
-// Of a register only the six lowest bits count. Calls of `check` again, in a byte and with the end's complement, which is the
-// form of a register that C and an end keep.
+// Of a register only the six lowest bits count. Calls of `check` again, for the one check whose register fits a byte: no plainer
+// without, since who feeds bytes as they pass keeps the register in a byte, and that of `check` is a `u64`.
 ghost use Rattle.std.specs.Prelude.{◌≡◌, ◌^◌, ◌<◌, [], ◌∷◌};
 ghost use Rattle.frame.specs.Checks.{ones, InParts, crc6_degree, crc6_lower, crc6_fed, crc6_end, crc6_of};
 

@@ -8,8 +8,8 @@ use crate::crc4;
 use crate::refusal::HeaderRefusal;
 
 /// What a header carries: its C6 bit, its In6 bit and Data.
-// Bits as numbers, and frames as numbers that each function brings into range: the C interface needs plain numbers, and a
-// narrower type would ask more of callers.
+// Bits are numbers, as `write` takes C6 and as they are printed: a bool would be no plainer, being turned back at each use. Frames
+// are numbers that each function brings into range: C hands in any, and a narrower type would ask more of callers.
 #[derive(Clone, Copy, PartialEq, Eq, Debug)]
 pub struct Fields {
     pub c6: u8,

@@ -17,6 +17,7 @@ impl Extras {
     }
 
     /// The extra of a pair, 0 for one past the last.
+    // No Option: a public call, whose promise stays; an extra that is not there is none.
     pub fn at(&self, pair: usize) -> u16
         ensures { result ≡ slice_index self.now.0 pair }
     {

@@ -6,7 +6,7 @@ pub trait Reuse {
     ghost reused: { Bool };
 
     /// Whether the place is used again.
-    // A method, since a constant is no plainer: it needs a ghost member of its name too, beside `reused`, which callers name.
+    // A method, since a constant is no plainer: its ghost member would have its name, and each contract that says `reused` another.
     fn is_reused() -> bool
         ensures { result ≡ reused };
 }

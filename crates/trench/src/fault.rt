@@ -6,7 +6,8 @@ use std::error::Error;
 use std::fmt;
 
 /// What a number in a command stands for.
-// Fields, forms and faults of its own, beside those of the commands for cables: other cases, which one type for both would mix.
+// Fields, forms and faults of its own, beside those of the commands for cables: fields and forms have other cases, which one type
+// for both would mix, and the faults that both have are over them.
 #[derive(Clone, Copy, PartialEq, Eq, Debug)]
 pub enum Field {
     Frame,

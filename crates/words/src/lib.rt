@@ -40,7 +40,7 @@ pub fn byte(text: &str) -> Option<u8>
 }
 
 /// A word by its place, empty where there is none.
-// No Option: a command reads an absent word as an empty one, which no command and no number is.
+// No Option: a public call, whose promise stays. The definitions of commands read an absent word as an empty one.
 pub fn word_at<'a>(words: &[&'a str], place: usize) -> &'a str
     ensures { result.now ≡ word words.now place }
 {
