@@ -57,15 +57,7 @@ fn superframe(words: &[&str]) -> Result<Answer, Fault>
     };
     let crc = number(Field::C6Bits, bits)?;
     let code = number(Field::Code, code)?;
-    // Five lines, and neither a loop nor `try_map`: that each fault is the first word's that has one, and the five together what
-    // the five are one by one, took a file of lemmas, where these lines need no proof.
-    let values = [
-        number(Field::Value, v0)?,
-        number(Field::Value, v1)?,
-        number(Field::Value, v2)?,
-        number(Field::Value, v3)?,
-        number(Field::Value, v4)?,
-    ];
+    let values = [*v0, *v1, *v2, *v3, *v4].try_map(|word| number(Field::Value, word))?;
     Ok(Answer::Headers(headers(crc, Event { code, values })))
 }
 
