@@ -3,7 +3,7 @@ use Rattle.std.specs.Prelude.{◌≡◌, ℕ, List, Some, None, Ok, Err, Option,
 use Rattle.cable.specs.Model.{Model}
 use Rattle.layer.specs.Stretch.{stretched, stretch_model}
 use Rattle.layer.specs.declared.stretch.Stretch.{Stretch}
-use Rattle.cable_commands.specs.Calls.{Told, done, told_by, reply_to, after_call}
+use Rattle.cable_commands.specs.Calls.{Told, done, told_by, reply_to, after_call, Case, done_case, case_for}
 use Rattle.cable_commands.specs.Laying.{laid_model, kind_model}
 use Rattle.cable_commands.specs.declared.cables.Cables.{Cables}
 use Rattle.cable_commands.specs.declared.cables.Command.{Command}
@@ -66,6 +66,11 @@ abbrev pub Requested : Way → Request → Models → Result Told CableFault →
 Requested way (Lay kind extras) before said after = Laying way kind extras before said after
 Requested way (Ask call) before said after =
     (said ≡ asked_said call (on_way before way)) × (after ≡ with_way before way (asked_after call (on_way before way)))
+
+-- the case of reply that a request is answered by
+abbrev pub case_wanted : Request → Case
+case_wanted (Lay kind extras) = done_case
+case_wanted (Ask call) = case_for call
 
 abbrev pub Performed : Command → Models → Result Told CableFault → Models → Type 0
 Performed command before said after = Requested command.way command.request before said after

@@ -37,6 +37,31 @@ told_by (Byte answer) = byte_said answer
 told_by (SinceReply answer) = since_told answer
 told_by (Number n) = number n
 
+-- the four cases of a reply
+pub data Case : Type 0 where
+  done_case : Case
+  byte_case : Case
+  since_case : Case
+  number_case : Case
+
+abbrev pub case_of : Reply → Case
+case_of (Done answer) = done_case
+case_of (Byte answer) = byte_case
+case_of (SinceReply answer) = since_case
+case_of (Number n) = number_case
+
+-- the case that a call is answered by, whatever there is to tell
+abbrev pub case_for : Call → Case
+case_for (Put p b) = done_case
+case_for (Tick n) = done_case
+case_for (Take p) = byte_case
+case_for (Peek p) = byte_case
+case_for (Since p k) = since_case
+case_for Pairs = number_case
+case_for Left = number_case
+case_for (Free p) = number_case
+case_for (Delay p) = number_case
+
 abbrev pub reply_to : Call → Model → Told
 reply_to (Put p b) m = done_said (put_said m p)
 reply_to (Tick n) m = done_said (ticked_said n m)

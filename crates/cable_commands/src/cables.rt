@@ -1,8 +1,9 @@
 // The cables of the two ways, and what a command does with them.
-ghost use Rattle.std.specs.Prelude.{◌≡◌};
+ghost use Rattle.std.specs.Prelude.{◌≡◌, IfOk};
 ghost use Rattle.std.specs.Borrow.{sem};
 ghost use Rattle.cable_commands.specs.Lending.{LendsCable};
-ghost use Rattle.cable_commands.specs.Cables.{cable_at, models_of, on_way, no_cables, with_way, told_for, asked_said, asked_after, Laying, Performed};
+ghost use Rattle.cable_commands.specs.Cables.{cable_at, models_of, on_way, no_cables, with_way, told_for, asked_said, asked_after, case_wanted, Laying, Performed};
+ghost use Rattle.cable_commands.specs.Calls.{done_case, case_of, case_for};
 
 use crate::call::{Call, Reply, ask};
 use crate::fault::CableFault;
@@ -72,7 +73,8 @@ impl Cables {
         kind: Kind,
         extras: [u16; MOST_PAIRS],
     ) -> Result<Reply, CableFault>
-        ensures { Laying way kind extras (models_of self.old) (told_for result) (models_of self.new) }
+        ensures laying { Laying way kind extras (models_of self.old) (told_for result) (models_of self.new) }
+        ensures case { IfOk result (λ reply. case_of reply ≡ done_case) }
     {
         let laid = kind.lay(heap)?;
         *self.on(way) = Some(Stretch::new(laid, extras));
@@ -83,6 +85,7 @@ impl Cables {
     fn ask(&mut self, way: Way, call: Call) -> Result<Reply, CableFault>
         ensures said { told_for result ≡ asked_said call (on_way (models_of self.old) way) }
         ensures after { models_of self.new ≡ with_way (models_of self.old) way (asked_after call (on_way (models_of self.old) way)) }
+        ensures case { IfOk result (λ reply. case_of reply ≡ case_for call) }
     {
         let cable = self.on(way).as_mut().ok_or(CableFault::NoCable)?;
         Ok(ask(cable, call))
@@ -90,7 +93,8 @@ impl Cables {
 
     /// Does what a command says.
     pub fn perform(&mut self, heap: Global, command: Command) -> Result<Reply, CableFault>
-        ensures { Performed command (models_of self.old) (told_for result) (models_of self.new) }
+        ensures performed { Performed command (models_of self.old) (told_for result) (models_of self.new) }
+        ensures case { IfOk result (λ reply. case_of reply ≡ case_wanted command.request) }
     {
         match command.request {
             Request::Lay(kind, extras) => self.lay(heap, command.way, kind, extras),

@@ -1,6 +1,6 @@
 // What can be asked of any cable, and what it answers.
 ghost use Rattle.std.specs.Prelude.{◌≡◌};
-ghost use Rattle.cable_commands.specs.Calls.{reply_to, after_call, told_by};
+ghost use Rattle.cable_commands.specs.Calls.{reply_to, after_call, told_by, case_of, case_for};
 
 use cable::Cable;
 use cable::refusal::CableRefusal;
@@ -35,6 +35,7 @@ pub enum Reply {
 pub fn ask<K: Cable>(cable: &mut K, call: Call) -> Reply
     ensures said { told_by result ≡ reply_to call (K.Cable.model cable.old) }
     ensures after { K.Cable.model cable.new ≡ after_call call (K.Cable.model cable.old) }
+    ensures case { case_of result ≡ case_for call }
 {
     match call {
         Call::Put(pair, value) => Reply::Done(cable.put(pair, value)),
