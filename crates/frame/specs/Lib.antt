@@ -1,5 +1,6 @@
 pub mod Checks
 pub mod Division
+pub mod Export
 pub mod Header
 pub mod Refusals
 pub mod Superframe

@@ -20,6 +20,20 @@ pub trait Check {
     /// The lower terms of the divisor.
     const LOWER: u64;
 
+    /// `DEGREE`, by a call.
+    fn degree_of() -> u32
+        ensures { result ≡ DEGREE }
+    {
+        Self::DEGREE
+    }
+
+    /// `LOWER`, by a call.
+    fn lower_of() -> u64
+        ensures { result ≡ LOWER }
+    {
+        Self::LOWER
+    }
+
     /// The register with the last four bits of a number.
     fn feed_nibble(register: u64, nibble: u64) -> u64
         ensures value { result ≡ fed_bits DEGREE LOWER register (bits 4 nibble) }
@@ -57,7 +71,7 @@ pub trait Check {
 struct Divisor {
     degree: u32,
     lower: u64,
-    ghost most: { degree ≤ most_degree },
+    ghost narrow: { degree < 64 },
     ghost below: { lower < 2 ^ degree },
 }
 

@@ -5,6 +5,7 @@ pub mod check;
 pub mod crc4;
 pub mod crc6;
 pub mod event;
+pub mod export;
 pub mod header;
 pub mod refusal;
 

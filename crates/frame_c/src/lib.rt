@@ -3,18 +3,17 @@
 
 ghost use Rattle.std.specs.Prelude.{◌≡◌};
 ghost use Rattle.frame.specs.Checks.{crc6_of};
+ghost use Rattle.frame.specs.Export.{packed};
 ghost use Rattle.frame.specs.Header.{header_of, read_of};
-ghost use Rattle.frame_c.specs.Export.{packed};
 
-use frame::crc6;
-use frame::header::{read, write};
+use frame::export;
 
 /// The header of a frame.
 #[unsafe(no_mangle)]
 pub extern "C" fn frame_header_write(frame: u8, c6: u8, data: u8) -> u16
     ensures { result ≡ header_of frame c6 «data» }
 {
-    write(frame, c6, data)
+    export::frame_header_write(frame, c6, data)
 }
 
 /// What the header of a frame carries, as one number, for C has no Result: C6 in bit 9, In6 in bit 8, Data in bits 7 to
@@ -23,12 +22,7 @@ pub extern "C" fn frame_header_write(frame: u8, c6: u8, data: u8) -> u16
 pub extern "C" fn frame_header_read(frame: u8, header: u16) -> u32
     ensures { result ≡ packed (read_of frame header) }
 {
-    match read(frame, header) {
-        Ok(fields) => (u32::from(fields.c6) << 9)
-            + (u32::from(fields.in6) << 8)
-            + u32::from(fields.data),
-        Err(refusal) => u32::from(refusal.number()) << 16,
-    }
+    export::frame_header_read(frame, header)
 }
 
 /// The CRC-6 over some bytes, for C a pointer and a length.
@@ -36,5 +30,5 @@ pub extern "C" fn frame_header_read(frame: u8, header: u16) -> u32
 pub extern "C" fn frame_crc6(bytes: &[u8]) -> u8
     ensures { result ≡ crc6_of bytes.now }
 {
-    crc6::of_bytes(bytes)
+    export::frame_crc6(bytes)
 }

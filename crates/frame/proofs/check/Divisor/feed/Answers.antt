@@ -1,4 +1,4 @@
-use Rattle.std.proofs.Common.{◌-◌, ◌/◌, ◌^◌, arith}
+use Rattle.std.proofs.Common.{◌-◌, ◌/◌, ◌^◌}
 use lib.Bits.{and_mask}
 use Rattle.std.proofs.lemmas.Nat.{mod_below, pow_pos}
 use Rattle.frame.specs.Checks.{fed_bits}
@@ -8,7 +8,7 @@ use Rattle.frame.proofs.check.Divisor.feed.Goals as goal
 pub loop-k-init : goal.loop-k-init
 loop-k-init c =
     let d = c.args.self.degree in
-    let is = masked d c.args.register (omega (arith, c.args.self.most)) in
+    let is = masked d c.args.register c.args.self.narrow in
     (cc, rw is (mod_below c.args.register (2 ^ d) (pow_pos d)))
 
 pub loop-k-preserved : goal.loop-k-preserved
