@@ -19,8 +19,10 @@ fn empty_pairs(count: usize, delays: [u16; MOST_PAIRS]) -> ArrayVec<Pair, MOST_P
     requires { count ≤ most_pairs }
     ensures { result.items ≡ numbered count (λ p. empty_pair (slice_index delays p)) }
 {
-    let mut pairs = ArrayVec::from(delays.map(Pair::new));
-    pairs.truncate(count);
+    let mut pairs = ArrayVec::new();
+    for delay in &delays[..count] {
+        pairs.push(Pair::new(*delay));
+    }
     pairs
 }
 
