@@ -74,7 +74,8 @@ impl<K: Cable> Cable for Stretch<K> {
     }
 
     fn peek(&self, pair: usize) -> Option<u8> {
-        if self.since(pair, 0)? < 0 {
+        let since = self.since(pair, 0)?;
+        if since < 0 {
             return None;
         }
         self.inner.peek(pair)
